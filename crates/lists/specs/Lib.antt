@@ -1,0 +1,5 @@
+pub mod Pick
+pub mod Part
+pub mod Rising
+pub mod Refusals
+pub mod Sought
