@@ -5,3 +5,4 @@ pub mod Local
 pub mod Upward
 pub mod WellKinded
 pub mod Gluing
+pub mod Nodes
