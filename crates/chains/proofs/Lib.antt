@@ -6,3 +6,7 @@ pub mod Upward
 pub mod WellKinded
 pub mod Gluing
 pub mod Nodes
+pub mod Read
+pub mod Around
+pub mod Downward
+pub mod Separate
