@@ -10,3 +10,4 @@ pub mod Read
 pub mod Around
 pub mod Downward
 pub mod Separate
+pub mod Number

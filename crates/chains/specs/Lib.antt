@@ -5,3 +5,4 @@ pub mod Chain
 pub mod Grouping
 pub mod Plausible
 pub mod Feasible
+pub mod Numbering
