@@ -11,3 +11,4 @@ pub mod Around
 pub mod Downward
 pub mod Separate
 pub mod Number
+pub mod Occurrences

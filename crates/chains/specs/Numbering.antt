@@ -1,11 +1,12 @@
 -- Group numbers, given in walk order: the root's settings first, then at each node its children's settings from left to right.
 use mathlib.Core.Path.{_≡_}
-use mathlib.Core.Logic.{_⊎_}
+use mathlib.Core.Logic.{_⊎_, _↔_}
 use mathlib.Core.List.{List, [], _∷_, _++_, List·Memᴰ}
 use Prim.Native.Nat.{ℕ, zero, suc}
 use lib.ListN.{getD}
-use Rattle.chains.specs.Grammar.{Occ, Grammar}
+use Rattle.chains.specs.Grammar.{Occ, Grammar, Exists}
 use Rattle.chains.specs.Tree.{Bush, Inst, Sub, roots}
+use Rattle.chains.specs.Chain.{Chain}
 
 -- the occurrences (s, a), (s, a + 1) .. of one slot, as many as told
 abbrev pub in-slot : ℕ → ℕ → ℕ → List Occ
@@ -35,3 +36,8 @@ pub record Numbered (G : Grammar) (f : Bush) (like : ℕ → Occ → Occ → Typ
   pub top : (q : ℕ) (ds : Bush) → Sub f 0 0 q ds → Numbers (like 0) (λ o. num (setting 0 ds o)) [] 0 (occurrences G 0 (G .left q ∷ [])) (next 0)
   pub below : (i q : ℕ) (ds : Bush) → Sub f 0 i q ds
       → Numbers (like i) (λ o. num (setting i ds o)) (occurrences G 0 (G .left q ∷ [])) (next i) (occurrences G 1 (G .kids q)) (next (suc i))
+
+-- like tells, in every production instance, which occurrences the whole tree's chains join
+abbrev pub Told : Grammar → Bush → (ℕ → Occ → Occ → Type 0) → Type 0
+Told G f like = (i q : ℕ) (ds : Bush) → Sub f 0 i q ds → (o o′ : Occ) → Exists G q o → Exists G q o′
+    → like i o o′ ↔ Chain G f 0 (setting i ds o) (setting i ds o′)
