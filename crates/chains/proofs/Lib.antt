@@ -12,3 +12,4 @@ pub mod Downward
 pub mod Separate
 pub mod Number
 pub mod Occurrences
+pub mod Walk
