@@ -13,3 +13,5 @@ pub mod Separate
 pub mod Number
 pub mod Occurrences
 pub mod Walk
+pub mod Alike
+pub mod Entries

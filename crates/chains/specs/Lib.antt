@@ -6,3 +6,4 @@ pub mod Grouping
 pub mod Plausible
 pub mod Feasible
 pub mod Numbering
+pub mod Choice
