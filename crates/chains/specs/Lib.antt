@@ -5,3 +5,5 @@ pub mod Chain
 pub mod Grouping
 pub mod Plausible
 pub mod Feasible
+pub mod Numbering
+pub mod Choice
