@@ -3,3 +3,5 @@ pub mod Range
 pub mod Forest
 pub mod Local
 pub mod Upward
+
+pub mod Labels
