@@ -6,3 +6,5 @@ pub mod Upward
 pub mod Labels
 pub mod Appearance
 pub mod Codes
+pub mod Decided
+pub mod Says
