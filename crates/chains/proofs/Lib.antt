@@ -8,3 +8,10 @@ pub mod Appearance
 pub mod Codes
 pub mod Decided
 pub mod Says
+pub mod WellKinded
+pub mod Gluing
+pub mod Nodes
+pub mod Read
+pub mod Around
+pub mod Downward
+pub mod Separate
