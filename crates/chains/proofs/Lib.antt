@@ -8,6 +8,7 @@ pub mod Appearance
 pub mod Codes
 pub mod Decided
 pub mod Says
+pub mod Step
 pub mod WellKinded
 pub mod Gluing
 pub mod Nodes
