@@ -11,6 +11,8 @@ pub mod Says
 pub mod Step
 pub mod WellKinded
 pub mod Gluing
+pub mod Plausible
+pub mod Feasible
 pub mod Nodes
 pub mod Read
 pub mod Around

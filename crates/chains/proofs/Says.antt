@@ -105,7 +105,22 @@ pub says-decided : (A : ℕ) → A ≤ 8 → (R : ℕ → ℕ → Type 0) → De
 says-decided A h R d = said d A h
 
 -- ---- what a code relates
+-- c is a proper code of the kind k
+abbrev pub Code : Grammar → ℕ → ℕ → Type 0
+Code G k c = (c < 8 ^ G .settings k) × Proper 0 (unpack (G .settings k) c)
+
 module _ (G : Grammar) where
+  pub says-code : (k c : ℕ) (R : ℕ → ℕ → Type 0) → Says (G .settings k) c R → Code G k c
+  says-code k c R s = (s .low, s .first)
+
+  -- a proper code that relates what R does says it
+  pub alike-says : (k c : ℕ) (R : ℕ → ℕ → Type 0) → Code G k c → ((a b : ℕ) → Alike G k c a b ↔ R a b) → Says (G .settings k) c R
+  alike-says k c R d h = record { low = d .0; first = d .1; same = λ a b ha hb. (λ e. h a b .0 (inr (ha, hb, e)), λ r. one (h a b .1 r)) }
+    where
+      one : {a b : ℕ} → Alike G k c a b → label c a ≡ label c b
+      one (inl e) = ap (label c) e
+      one (inr x) = x .2
+
   -- what a code says is what it relates, where nothing is related out of range
   pub says-alike : (k c : ℕ) (R : ℕ → ℕ → Type 0) → Says (G .settings k) c R → ((a : ℕ) → R a a)
       → ((a b : ℕ) → R a b → (a ≡ b) ⊎ ((a < G .settings k) × (b < G .settings k))) → (a b : ℕ) → Alike G k c a b ↔ R a b
