@@ -13,6 +13,7 @@ pub mod WellKinded
 pub mod Gluing
 pub mod Plausible
 pub mod Feasible
+pub mod Gather
 pub mod Nodes
 pub mod Read
 pub mod Around

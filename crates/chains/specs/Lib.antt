@@ -6,3 +6,4 @@ pub mod Grouping
 pub mod Labels
 pub mod Plausible
 pub mod Feasible
+pub mod Gather
