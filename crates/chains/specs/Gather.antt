@@ -42,7 +42,7 @@ UpTo j s = (0 < s) × (s ≤ j)
 abbrev pub Towards : ℕ → ℕ → ℕ → Type 0
 Towards t j s = (s < j) ⊎ (s ≡ t)
 
--- the codes of each slot: F's of the left kind, T's of a child's
-abbrev pub CodesOf : Grammar → ℕ → (F T : ℕ → ℕ → Type 0) → ℕ → ℕ → Type 0
-CodesOf G p F T zero c = F (G .left p) c
-CodesOf G p F T (suc j) c = T (getD (G .kids p) j 0) c
+-- the codes of each slot: S's of the left kind, T's of a child's
+abbrev pub CodesOf : Grammar → (S T : ℕ → ℕ → Type 0) → ℕ → ℕ → ℕ → Type 0
+CodesOf G S T p zero c = S (G .left p) c
+CodesOf G S T p (suc j) c = T (getD (G .kids p) j 0) c

@@ -6,4 +6,5 @@ pub mod Grouping
 pub mod Labels
 pub mod Plausible
 pub mod Feasible
+pub mod Steps
 pub mod Gather
