@@ -138,9 +138,10 @@ module _ (G : Grammar) (p t : ℕ) where
           choice = but (r .choice) c;
           from = λ s h. elim h [ inl e ↦ rw (e, but-here (r .choice) c) m | inr u ↦ rw (but-there (r .choice) c s u) (r .from s u) ];
           says = says-map (r .says) (λ a b ha hb.
-              let k = tied-first (but (r .choice) c) c (but-here (r .choice) c) a b in
-              (λ d. k .1 (more (rechosen (r .choice) (but (r .choice) c) (λ s u. sym (but-there (r .choice) c s u)) (Kept Keep (TiedTo G p s₀ c ρ))) d),
-               λ d. more (rechosen (but (r .choice) c) (r .choice) (λ s u. but-there (r .choice) c s u) (Kept Keep (TiedTo G p s₀ c ρ))) (k .0 d)));
+              let k = tied-first (but (r .choice) c) c (but-here (r .choice) c) a b in (
+                λ d. k .1 (more (rechosen (r .choice) (but (r .choice) c) (λ s u. sym (but-there (r .choice) c s u)) (Kept Keep (TiedTo G p s₀ c ρ))) d),
+                λ d. more (rechosen (but (r .choice) c) (r .choice) (λ s u. but-there (r .choice) c s u) (Kept Keep (TiedTo G p s₀ c ρ))) (k .0 d),
+              ));
         }
 
 -- ---- upward: children j, j - 1, .. 1, seen on slot 0
