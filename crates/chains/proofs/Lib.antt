@@ -20,3 +20,8 @@ pub mod Read
 pub mod Around
 pub mod Downward
 pub mod Separate
+pub mod Number
+pub mod Occurrences
+pub mod Walk
+pub mod Alike
+pub mod Entries

@@ -8,3 +8,5 @@ pub mod Plausible
 pub mod Feasible
 pub mod Steps
 pub mod Gather
+pub mod Numbering
+pub mod Choice
