@@ -1,4 +1,4 @@
--- What codes say: a code is pinned by what it says, every equivalence has one, and what a code says is what it relates.
+-- What codes say: a code is pinned by what it says, and every equivalence that can be tested has one.
 use mathlib.Core.Path.{_≡_, refl, sym, ap, _∙_, subst, subst₂}
 use mathlib.Core.Logic.{_⊎_, inl, inr, _↔_}
 use mathlib.Core.List.{List, [], _∷_}
@@ -121,19 +121,6 @@ module _ (G : Grammar) where
       one (inl e) = ap (label c) e
       one (inr x) = x .2
 
-  -- what a code says is what it relates, where nothing is related out of range
-  pub says-alike : (k c : ℕ) (R : ℕ → ℕ → Type 0) → Says (G .settings k) c R → ((a : ℕ) → R a a)
-      → ((a b : ℕ) → R a b → (a ≡ b) ⊎ ((a < G .settings k) × (b < G .settings k))) → (a b : ℕ) → Alike G k c a b ↔ R a b
-  says-alike k c R s self real a b = (to, λ r. from r (real a b r))
-    where
-      to : Alike G k c a b → R a b
-      to (inl e) = subst (R a) e (self a)
-      to (inr (u, v, e)) = s .same a b u v .0 e
-
-      from : R a b → (a ≡ b) ⊎ ((a < G .settings k) × (b < G .settings k)) → Alike G k c a b
-      from r (inl e) = inl e
-      from r (inr (u, v)) = inr (u, v, s .same a b u v .1 r)
-
   pub alike-decided : (k c : ℕ) → Decided (Alike G k c)
   alike-decided k c = or-equal ℕ-discrete (record {
     turn = λ a b r. (r .1, r .0, sym (r .2));
@@ -154,13 +141,11 @@ module _ (G : Grammar) where
   each-alike (k ∷ ks) (c ∷ cs) e zero h a b = (λ r. r, λ r. r)
   each-alike (k ∷ ks) (c ∷ cs) e (suc j) h a b = each-alike ks cs (omega arith) j (omega arith) a b
 
-  -- and nothing out of range
-  pub each-real : (ks cs : List ℕ) (j a b : ℕ) → Each G ks cs j a b → (j < length ks) × ((a ≡ b) ⊎ ((a < G .settings (getD ks j 0)) × (b < G .settings (getD ks j 0))))
-  each-real [] cs j a b r = absurd r
-  each-real (k ∷ ks) [] j a b r = absurd r
-  each-real (k ∷ ks) (c ∷ cs) zero a b (inl e) = (omega arith, inl e)
-  each-real (k ∷ ks) (c ∷ cs) zero a b (inr (u, v, e)) = (omega arith, inr (u, v))
-  each-real (k ∷ ks) (c ∷ cs) (suc j) a b r = let (h, s) = each-real ks cs j a b r in (omega arith, s)
+  pub each-slot : (ks cs : List ℕ) (j a b : ℕ) → Each G ks cs j a b → j < length ks
+  each-slot [] cs j a b r = absurd r
+  each-slot (k ∷ ks) [] j a b r = absurd r
+  each-slot (k ∷ ks) (c ∷ cs) zero a b r = omega arith
+  each-slot (k ∷ ks) (c ∷ cs) (suc j) a b r = let h = each-slot ks cs j a b r in omega arith
 
 -- ---- one code for each kind
 module _ (S : ℕ → ℕ → Type 0) where

@@ -13,7 +13,7 @@ use Rattle.chains.specs.Steps.{StepUp, StepDown}
 use Rattle.chains.specs.Gather.{AllTied, Result, UpTo, Towards, CodesOf}
 use Rattle.chains.proofs.Closure.{more}
 use Rattle.chains.proofs.Labels.{length-labels, labels-at}
-use Rattle.chains.proofs.Says.{says-map, each-alike, each-real, members-long, members-at}
+use Rattle.chains.proofs.Says.{says-map, each-alike, each-slot, members-long, members-at}
 
 -- ---- a choice for the slots beside codes of the children, slot 0 apart
 module _ (G : Grammar) (p : ℕ) (Open : ℕ → Type 0) (f : ℕ → ℕ) (cs : List ℕ) (ρ : ℕ → ℕ → Type 0)
@@ -27,7 +27,7 @@ module _ (G : Grammar) (p : ℕ) (Open : ℕ → Type 0) (f : ℕ → ℕ) (cs :
 
   slot-from : (s a b : ℕ) → Slotwise ρ (Each G (G .kids p) cs) s a b → Open s × Alike G (getD (slots G p) s 0) (f s) a b
   slot-from zero a b r = left a b .1 r
-  slot-from (suc j) a b r = let l = each-real G (G .kids p) cs j a b r .0 in (children j .1 l, rw (agree j l) (each-alike G (G .kids p) cs long j l a b .0 r))
+  slot-from (suc j) a b r = let l = each-slot G (G .kids p) cs j a b r in (children j .1 l, rw (agree j l) (each-alike G (G .kids p) cs long j l a b .0 r))
 
   tied-join : (o q : Occ) → AllTied G p Open f (Tied G p) o q → Join G p (Slotwise ρ (Each G (G .kids p) cs)) o q
   tied-join o q (inl t) = inl t
