@@ -1,12 +1,12 @@
 -- What a code relates, against what it says: the same, also of settings that there are not, which are alike to themselves only.
-use mathlib.Core.Path.{_≡_, refl, ap, Σ-path}
+use mathlib.Core.Path.{_≡_, ap, Σ-path}
 use mathlib.Core.Logic.{_⊎_, inl, inr, _↔_}
 use mathlib.Core.List.{List, [], _∷_}
 use Prim.Native.Nat.{ℕ, zero, suc, _<_}
 use native.Mathlib.Omega.{arith}
 use lib.ListN.{length, getD}
 use Rattle.chains.specs.Grammar.{Occ, Grammar, Lawful, Exists}
-use Rattle.chains.specs.Chain.{Slotwise, Join, Closure, Eqv, done}
+use Rattle.chains.specs.Chain.{Slotwise, Join, Closure}
 use Rattle.chains.specs.Grouping.{Says, Alike, Each}
 use Rattle.chains.proofs.Closure.{real-ends}
 use Rattle.chains.proofs.Says.{says-map}

@@ -1,16 +1,14 @@
 -- The walk over a production's slots: a slot's code may be tied, and the slot then dropped, before the others' codes are chosen.
-use mathlib.Core.Path.{_≡_, refl, sym, ap, _∙_, subst}
+use mathlib.Core.Path.{_≡_, refl, sym, _∙_, subst}
 use mathlib.Core.Logic.{_⊎_, inl, inr, _↔_}
-use mathlib.Core.List.{List, [], _∷_}
-use Prim.Native.Nat.{ℕ, zero, suc, _+_, _-_, _≤_, _<_}
+use Prim.Native.Nat.{ℕ, _-_, _<_}
 use native.Mathlib.Omega.{arith}
 use borrow.Author.Tests.{eq-eqb, ne-eqb}
 use lib.Dec.{eqb}
-use lib.ListN.{length, getD}
 use Rattle.lists.specs.Pick.{pick}
 use Rattle.lists.proofs.Order.{by-order}
 use Rattle.chains.specs.Grammar.{Occ, Grammar, slots, width}
-use Rattle.chains.specs.Chain.{Eqv, done, fwd, bwd}
+use Rattle.chains.specs.Chain.{Eqv, done, fwd}
 use Rattle.chains.specs.Grouping.{label, Says}
 use Rattle.chains.specs.Gather.{InSlot, TiedTo, AllTied, Result, Remaining, Outside, UpTo, Towards}
 use Rattle.chains.proofs.Closure.{bind, more, glue}

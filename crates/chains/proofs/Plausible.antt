@@ -8,7 +8,7 @@ use native.Mathlib.Omega.{arith}
 use lib.ListN.{length, getD}
 use Rattle.chains.specs.Grammar.{Occ, Grammar, Lawful, Heads, Exists}
 use Rattle.chains.specs.Tree.{Bush, nil, grow, Kinded}
-use Rattle.chains.specs.Chain.{Eqv, done, Chain, Slotwise, Closure}
+use Rattle.chains.specs.Chain.{done, Chain, Slotwise, Closure}
 use Rattle.chains.specs.Grouping.{Says, Alike, Each, Members}
 use Rattle.chains.specs.Plausible.{Plausible}
 use Rattle.chains.specs.Steps.{StepUp}
@@ -103,8 +103,7 @@ module _ (G : Grammar) (L : Lawful G) where
 
   -- ---- trees side by side, below a production
   -- what a tree relates among its root's settings is in range
-  root-real : (p k : ℕ) (ds : Bush) → Heads G p k → InRange G ds (G .kids p) → (a b : ℕ) → Closure G p (Slotwise (λ a b. ⊥) (Up G ds)) (0, a) (0, b)
-      → (a ≡ b) ⊎ ((a < G .settings k) × (b < G .settings k))
+  root-real : (p k : ℕ) (ds : Bush) → Heads G p k → InRange G ds (G .kids p) → Kept (G .settings k) (λ a b. Closure G p (Slotwise (λ a b. ⊥) (Up G ds)) (0, a) (0, b))
   root-real p k ds (hp, e) h a b u = at-root (closure-real G L p hp (Slotwise (λ a b. ⊥) (Up G ds)) below (0, a) (0, b) u)
     where
       below : (s a b : ℕ) → Slotwise (λ a b. ⊥) (Up G ds) s a b → (a ≡ b) ⊎ (Exists G p (s, a) × Exists G p (s, b))

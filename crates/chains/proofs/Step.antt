@@ -1,13 +1,13 @@
 -- What a production makes of relations in its slots can be tested, and so on each slot a code says it.
-use mathlib.Core.Path.{_≡_, refl, sym, ap, _∙_, subst, Σ-path}
+use mathlib.Core.Path.{_≡_, sym, ap, _∙_, subst, Σ-path}
 use mathlib.Core.Logic.{_⊎_, inl, inr, _↔_, Dec·of-iff}
-use mathlib.Core.List.{List, [], _∷_}
+use mathlib.Core.List.{List}
 use Prim.Native.Nat.{ℕ, zero, suc, _≤_, _<_}
 use native.Mathlib.Omega.{arith}
 use native.Mathlib.Decide.{ℕ-discrete}
 use lib.ListN.{length, getD}
 use Rattle.chains.specs.Grammar.{Occ, Grammar, Lawful, slots, width}
-use Rattle.chains.specs.Chain.{Eqv, done, fwd, bwd, Slotwise, Join, Closure}
+use Rattle.chains.specs.Chain.{Eqv, done, fwd, Slotwise, Join, Closure}
 use Rattle.chains.specs.Grouping.{Says, Alike, Each}
 use Rattle.chains.specs.Feasible.{Chosen}
 use Rattle.chains.proofs.Closure.{bind}
