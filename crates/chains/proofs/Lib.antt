@@ -15,6 +15,7 @@ pub mod Plausible
 pub mod Feasible
 pub mod Gather
 pub mod Gathered
+pub mod State
 pub mod Nodes
 pub mod Read
 pub mod Around

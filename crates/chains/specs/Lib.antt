@@ -8,5 +8,6 @@ pub mod Plausible
 pub mod Feasible
 pub mod Steps
 pub mod Gather
+pub mod State
 pub mod Numbering
 pub mod Choice

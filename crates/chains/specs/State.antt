@@ -1,0 +1,32 @@
+-- A state of the walk over a production's slots: the label of each occurrence, by its number, and 255 where there is none or it was dropped.
+use mathlib.Core.Path.{_≡_}
+use mathlib.Core.List.{List}
+use Prim.Native.Nat.{ℕ, _+_, _*_, _<_}
+use lib.ListN.{getD, replicate}
+use Rattle.lists.specs.Part.{part, place}
+use Rattle.chains.specs.Grammar.{Occ}
+use Rattle.chains.specs.Grouping.{pack}
+use Rattle.chains.specs.Labels.{canon}
+
+-- an occurrence's number: slot times 8 plus setting
+abbrev pub number : Occ → ℕ
+number o = o .0 * 8 + o .1
+
+abbrev pub label-of : List ℕ → Occ → ℕ
+label-of l o = getD l (number o) 255
+
+-- both have labels, and one label
+abbrev pub SameLabel : {X : Type 0} → (X → ℕ) → X → X → Type 0
+SameLabel f x y = (f x < 255) × (f y < 255) × (f x ≡ f y)
+
+-- the state has o and q in one group
+abbrev pub Shown : List ℕ → Occ → Occ → Type 0
+Shown l o q = (o .1 < 8) × (q .1 < 8) × SameLabel (λ i. getD l i 255) (number o) (number q)
+
+-- without slot s
+abbrev pub dropped : ℕ → List ℕ → List ℕ
+dropped s l = place (s * 8) (replicate 8 255) l
+
+-- the code of A settings in slot s
+abbrev pub code-on : ℕ → ℕ → List ℕ → ℕ
+code-on s A l = pack (canon (part (s * 8) A l))
