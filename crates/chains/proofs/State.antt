@@ -17,7 +17,7 @@ use Rattle.chains.specs.Chain.{Eqv, done, fwd, bwd}
 use Rattle.chains.specs.Grouping.{Says}
 use Rattle.chains.specs.Labels.{swap, relabel, joinAt, joins, joinAtF, joinsF}
 use Rattle.chains.specs.Gather.{Outside}
-use Rattle.chains.specs.State.{number, label-of, SameLabel, Shown, dropped, code-on}
+use Rattle.chains.specs.State.{number, label-of, SameLabel, ByNumber, Shown, dropped, code-on}
 use Rattle.chains.proofs.Closure.{bind, more, along}
 use Rattle.chains.proofs.Labels.{Ends, ends-map, named-ends, keeps, joined-ends, joinsF-agree}
 use Rattle.chains.proofs.Says.{says-map, says-canon}
@@ -131,3 +131,99 @@ state-joins l (e ∷ es) (hp, hq, h) i =
       ends-map (λ i. getD l i 255 < 255) (λ i. getD (joinAt l (e .0) (e .1)) i 255 < 255) (λ i k. rw (one i) (swap-labelled (λ i. getD l i 255) (e .0) (e .1) hp hq i k)) es h in
     state-joins (joinAt l (e .0) (e .1)) es w i
     ∙ joinsF-agree (λ i. Unit {0}) es (λ i. getD (joinAt l (e .0) (e .1)) i 255) g (λ i u. one i) (ends-map (λ i. getD l i 255 < 255) (λ i. Unit {0}) (λ i k. tt) es h) i tt
+
+-- ---- from numbers to occurrences
+module _ (R : ℕ → ℕ → Type 0) where
+  place-of : ℕ → Occ
+  place-of i = (i / 8, i % 8)
+
+  placed : (i j : ℕ) → R i j → Eqv (ByNumber R) (place-of i) (place-of j)
+  unfolding place-of
+  placed i j r =
+      let u : i ≡ i / 8 * 8 + i % 8 = omega arith in
+      let v : j ≡ j / 8 * 8 + j % 8 = omega arith in
+      let r′ : ByNumber R (place-of i) (place-of j) = (omega arith, omega arith, subst₂ R u v r) in
+      fwd done r′
+
+  place-number : (o : Occ) → o .1 < 8 → place-of (number o) ≡ o
+  unfolding place-of
+  place-number o h =
+      let d : (o .0 * 8 + o .1) / 8 ≡ o .0 = omega arith in
+      let m : (o .0 * 8 + o .1) % 8 ≡ o .1 = omega arith in
+      rw (d, m)
+
+  -- chains of numbers are chains of occurrences
+  pub by-number : (o q : Occ) → o .1 < 8 → q .1 < 8 → Eqv (ByNumber R) o q ↔ Eqv R (number o) (number q)
+  by-number o q ho hq = (
+    λ c. along number (λ o q r. fwd done (r .2)) c,
+    λ c. subst₂ (Eqv (ByNumber R)) (place-number o ho) (place-number q hq) (along place-of placed c),
+  )
+
+-- THEOREM: what a state shows after joining is the closure of what it showed and the pairs
+pub state-tied : (l : List ℕ) (es : List (ℕ × ℕ)) → Ends (λ i. getD l i 255 < 255) es → (o q : Occ)
+    → Eqv (Shown (joins l es)) o q ↔ Eqv (λ o q. Shown l o q ⊎ ByNumber (Named es) o q) o q
+state-tied l es h o q = (bind forth, bind aback)
+  where
+    numbers : (i j : ℕ) → Eqv (SameLabel (λ i. getD (joins l es) i 255)) i j ↔ Eqv (λ i j. SameLabel (λ i. getD l i 255) i j ⊎ Named es i j) i j
+    numbers i j =
+        let t = shown-joins es (λ i. getD l i 255) h i j in
+        let at = state-joins l es h in
+        ( λ c. t .0 (more (λ i j s. subst₂ (λ a b. (a < 255) × (b < 255) × (a ≡ b)) (at i) (at j) s) c)
+        , λ c. more (λ i j s. subst₂ (λ a b. (a < 255) × (b < 255) × (a ≡ b)) (sym (at i)) (sym (at j)) s) (t .1 c) )
+
+    apart : (o q : Occ) → ByNumber (λ i j. SameLabel (λ i. getD l i 255) i j ⊎ Named es i j) o q → Shown l o q ⊎ ByNumber (Named es) o q
+    apart o q (ho, hq, inl s) = inl (ho, hq, s)
+    apart o q (ho, hq, inr n) = inr (ho, hq, n)
+
+    forth : (o q : Occ) → Shown (joins l es) o q → Eqv (λ o q. Shown l o q ⊎ ByNumber (Named es) o q) o q
+    forth o q (ho, hq, s) =
+        more apart (by-number (λ i j. SameLabel (λ i. getD l i 255) i j ⊎ Named es i j) o q ho hq .1 (numbers (number o) (number q) .0 (fwd done s)))
+
+    joined : (o q : Occ) → o .1 < 8 → q .1 < 8 → SameLabel (λ i. getD l i 255) (number o) (number q) ⊎ Named es (number o) (number q) → Eqv (Shown (joins l es)) o q
+    joined o q ho hq s = by-number (SameLabel (λ i. getD (joins l es) i 255)) o q ho hq .1 (numbers (number o) (number q) .1 (fwd done s))
+
+    aback : (o q : Occ) → Shown l o q ⊎ ByNumber (Named es) o q → Eqv (Shown (joins l es)) o q
+    aback o q (inl (ho, hq, s)) = joined o q ho hq (inl s)
+    aback o q (inr (ho, hq, n)) = joined o q ho hq (inr n)
+
+-- ---- dropping a slot
+module _ (s : ℕ) (l : List ℕ) (h : s * 8 + 8 ≤ length l) where
+  room : s * 8 + length (replicate {A = ℕ} 8 255) ≤ length l
+  room = h
+
+  inside : (o : Occ) → o .1 < 8 → o .0 ≡ s → label-of (dropped s l) o ≡ 255
+  inside o k e = rw e (getD-this l (s * 8) (replicate 8 255) room (o .1) 255 k ∙ getD-replicate 8 (o .1) 255 255 k)
+
+  outside : (o : Occ) → o .1 < 8 → Outside s o → label-of (dropped s l) o ≡ label-of l o
+  outside o k n =
+      by-order (label-of (dropped s l) o ≡ label-of l o) (o .0) s (λ e. absurd (n e))
+      (λ b. getD-before l (s * 8) (replicate 8 255) room (number o) 255 (omega arith)) (λ b. getD-after l (s * 8) (replicate 8 255) room (number o) 255 (omega arith))
+
+  not-inside : (o : Occ) → o .1 < 8 → label-of (dropped s l) o < 255 → Outside s o
+  not-inside o k b e = omega (arith, inside o k e)
+
+  -- THEOREM: a state without slot s shows what it showed of the other slots
+  pub shown-dropped : (o q : Occ) → Shown (dropped s l) o q ↔ (Outside s o × Outside s q × Shown l o q)
+  shown-dropped o q = (to, from)
+    where
+      to : Shown (dropped s l) o q → Outside s o × Outside s q × Shown l o q
+      to (ho, hq, (bo, bq, e)) =
+          let fo = not-inside o ho bo in
+          let fq = not-inside q hq bq in
+          (fo, fq, (ho, hq, subst₂ (λ a b. (a < 255) × (b < 255) × (a ≡ b)) (outside o ho fo) (outside q hq fq) (bo, bq, e)))
+
+      from : Outside s o × Outside s q × Shown l o q → Shown (dropped s l) o q
+      from (fo, fq, (ho, hq, t)) = (ho, hq, subst₂ (λ a b. (a < 255) × (b < 255) × (a ≡ b)) (sym (outside o ho fo)) (sym (outside q hq fq)) t)
+
+-- ---- reading a code off a slot
+-- THEOREM: where all A settings of slot s have labels, the code on that slot says what the state shows there
+pub code-says : (l : List ℕ) (s A : ℕ) → A ≤ 8 → s * 8 + A ≤ length l → ((a : ℕ) → a < A → label-of l (s, a) < 255)
+    → Says A (code-on s A l) (λ a b. Eqv (Shown l) (s, a) (s, b))
+code-says l s A few h labelled =
+    let n : length (part (s * 8) A l) ≡ A = length-part (s * 8) A l h in
+    let t : Says A (code-on s A l) (λ a b. getD (part (s * 8) A l) a 0 ≡ getD (part (s * 8) A l) b 0) = rw n at (says-canon (part (s * 8) A l) (rw n few)) in
+    let at : (a : ℕ) → a < A → getD (part (s * 8) A l) a 0 ≡ label-of l (s, a) = λ a k. getD-part (s * 8) A l a 0 k ∙ getD-any l (s * 8 + a) 0 255 (omega arith) in
+    says-map t (λ a b ha hb. (
+      λ e. fwd done (omega arith, omega arith, (labelled a ha, labelled b hb, sym (at a ha) ∙ e ∙ at b hb)),
+      λ c. at a ha ∙ keeps (label-of l) (λ o q r. r .2 .2) {x = (s, a)} {y = (s, b)} c ∙ sym (at b hb),
+    ))

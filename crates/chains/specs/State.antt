@@ -19,9 +19,13 @@ label-of l o = getD l (number o) 255
 abbrev pub SameLabel : {X : Type 0} → (X → ℕ) → X → X → Type 0
 SameLabel f x y = (f x < 255) × (f y < 255) × (f x ≡ f y)
 
+-- what R relates of numbers, of occurrences
+abbrev pub ByNumber : (ℕ → ℕ → Type 0) → Occ → Occ → Type 0
+ByNumber R o q = (o .1 < 8) × (q .1 < 8) × R (number o) (number q)
+
 -- the state has o and q in one group
 abbrev pub Shown : List ℕ → Occ → Occ → Type 0
-Shown l o q = (o .1 < 8) × (q .1 < 8) × SameLabel (λ i. getD l i 255) (number o) (number q)
+Shown l o q = ByNumber (SameLabel (λ i. getD l i 255)) o q
 
 -- without slot s
 abbrev pub dropped : ℕ → List ℕ → List ℕ
