@@ -16,6 +16,7 @@ pub mod Feasible
 pub mod Gather
 pub mod Gathered
 pub mod State
+pub mod Tying
 pub mod Nodes
 pub mod Read
 pub mod Around

@@ -159,6 +159,14 @@ module _ (R : ℕ → ℕ → Type 0) where
     λ c. subst₂ (Eqv (ByNumber R)) (place-number o ho) (place-number q hq) (along place-of placed c),
   )
 
+-- what a state shows is symmetric and transitive, so that chains of it go no further
+pub shown-ends : (l : List ℕ) (o q : Occ) → Eqv (Shown l) o q → (o ≡ q) ⊎ Shown l o q
+shown-ends l o q done = inl refl
+shown-ends l o q (fwd {y = r} c (hr, hq, (br, bq, e))) =
+    elim (shown-ends l o r c) [ inl f ↦ inr (rw f (hr, hq, (br, bq, e))) | inr k ↦ inr (k .0, hq, (k .2 .0, bq, k .2 .2 ∙ e)) ]
+shown-ends l o q (bwd {y = r} c (hq, hr, (bq, br, e))) =
+    elim (shown-ends l o r c) [ inl f ↦ inr (rw f (hr, hq, (br, bq, sym e))) | inr k ↦ inr (k .0, hq, (k .2 .0, bq, k .2 .2 ∙ sym e)) ]
+
 -- THEOREM: what a state shows after joining is the closure of what it showed and the pairs
 pub state-tied : (l : List ℕ) (es : List (ℕ × ℕ)) → Ends (λ i. getD l i 255 < 255) es → (o q : Occ)
     → Eqv (Shown (joins l es)) o q ↔ Eqv (λ o q. Shown l o q ⊎ ByNumber (Named es) o q) o q
