@@ -5,6 +5,7 @@ pub mod Local
 pub mod Upward
 pub mod Labels
 pub mod Appearance
+pub mod LabelLoops
 pub mod Codes
 pub mod Decided
 pub mod Says

@@ -1,5 +1,5 @@
 -- States: what joining, dropping a slot and reading a code off a slot mean for what a state shows.
-use mathlib.Core.Path.{_≡_, refl, sym, ap, _∙_, subst, subst₂}
+use mathlib.Core.Path.{_≡_, refl, sym, ap, _∙_, subst, subst₂, Σ-path}
 use mathlib.Core.Logic.{_⊎_, inl, inr, _↔_}
 use mathlib.Core.Bool.{Bool, true, false}
 use mathlib.Core.List.{List, [], _∷_, map}
@@ -7,17 +7,17 @@ use Prim.Native.Nat.{ℕ, zero, suc, _+_, _*_, _/_, _%_, _≤_, _<_}
 use native.Mathlib.Omega.{arith}
 use borrow.Author.Tests.{eqb-true, ne-eqb}
 use lib.Dec.{eqb}
-use lib.ListN.{length, getD, replicate, length-replicate, getD-replicate, List·getD-eq-default, List·getD-map}
+use lib.ListN.{length, getD, replicate, getD-replicate, List·getD-eq-default, List·getD-map}
 use Rattle.lists.specs.Pick.{pick}
-use Rattle.lists.specs.Part.{part, place}
+use Rattle.lists.specs.Part.{part}
 use Rattle.lists.proofs.Order.{by-order}
 use Rattle.lists.proofs.Parts.{length-part, getD-part, getD-before, getD-this, getD-after}
-use Rattle.chains.specs.Grammar.{Occ, Named}
+use Rattle.chains.specs.Grammar.{Occ, Tie, Named}
 use Rattle.chains.specs.Chain.{Eqv, done, fwd, bwd}
 use Rattle.chains.specs.Grouping.{Says}
 use Rattle.chains.specs.Labels.{swap, relabel, joinAt, joins, joinAtF, joinsF}
 use Rattle.chains.specs.Gather.{Outside}
-use Rattle.chains.specs.State.{number, label-of, SameLabel, ByNumber, Shown, dropped, code-on}
+use Rattle.chains.specs.State.{number, numbers, label-of, SameLabel, ByNumber, Shown, dropped, code-on}
 use Rattle.chains.proofs.Closure.{bind, more, along}
 use Rattle.chains.proofs.Labels.{Ends, ends-map, named-ends, keeps, joined-ends, joinsF-agree}
 use Rattle.chains.proofs.Says.{says-map, says-canon}
@@ -132,6 +132,10 @@ state-joins l (e ∷ es) (hp, hq, h) i =
     state-joins (joinAt l (e .0) (e .1)) es w i
     ∙ joinsF-agree (λ i. Unit {0}) es (λ i. getD (joinAt l (e .0) (e .1)) i 255) g (λ i u. one i) (ends-map (λ i. getD l i 255 < 255) (λ i. Unit {0}) (λ i k. tt) es h) i tt
 
+-- joining labels what was labelled
+pub state-labelled : (l : List ℕ) (es : List (ℕ × ℕ)) → Ends (λ i. getD l i 255 < 255) es → (i : ℕ) → (getD (joins l es) i 255 < 255) ↔ (getD l i 255 < 255)
+state-labelled l es h i = rw (state-joins l es h i) (joins-labelled es (λ i. getD l i 255) h i)
+
 -- ---- from numbers to occurrences
 module _ (R : ℕ → ℕ → Type 0) where
   place-of : ℕ → Occ
@@ -172,8 +176,8 @@ pub state-tied : (l : List ℕ) (es : List (ℕ × ℕ)) → Ends (λ i. getD l 
     → Eqv (Shown (joins l es)) o q ↔ Eqv (λ o q. Shown l o q ⊎ ByNumber (Named es) o q) o q
 state-tied l es h o q = (bind forth, bind aback)
   where
-    numbers : (i j : ℕ) → Eqv (SameLabel (λ i. getD (joins l es) i 255)) i j ↔ Eqv (λ i j. SameLabel (λ i. getD l i 255) i j ⊎ Named es i j) i j
-    numbers i j =
+    labels-tied : (i j : ℕ) → Eqv (SameLabel (λ i. getD (joins l es) i 255)) i j ↔ Eqv (λ i j. SameLabel (λ i. getD l i 255) i j ⊎ Named es i j) i j
+    labels-tied i j =
         let t = shown-joins es (λ i. getD l i 255) h i j in
         let at = state-joins l es h in
         ( λ c. t .0 (more (λ i j s. subst₂ (λ a b. (a < 255) × (b < 255) × (a ≡ b)) (at i) (at j) s) c)
@@ -185,14 +189,43 @@ state-tied l es h o q = (bind forth, bind aback)
 
     forth : (o q : Occ) → Shown (joins l es) o q → Eqv (λ o q. Shown l o q ⊎ ByNumber (Named es) o q) o q
     forth o q (ho, hq, s) =
-        more apart (by-number (λ i j. SameLabel (λ i. getD l i 255) i j ⊎ Named es i j) o q ho hq .1 (numbers (number o) (number q) .0 (fwd done s)))
+        more apart (by-number (λ i j. SameLabel (λ i. getD l i 255) i j ⊎ Named es i j) o q ho hq .1 (labels-tied (number o) (number q) .0 (fwd done s)))
 
     joined : (o q : Occ) → o .1 < 8 → q .1 < 8 → SameLabel (λ i. getD l i 255) (number o) (number q) ⊎ Named es (number o) (number q) → Eqv (Shown (joins l es)) o q
-    joined o q ho hq s = by-number (SameLabel (λ i. getD (joins l es) i 255)) o q ho hq .1 (numbers (number o) (number q) .1 (fwd done s))
+    joined o q ho hq s = by-number (SameLabel (λ i. getD (joins l es) i 255)) o q ho hq .1 (labels-tied (number o) (number q) .1 (fwd done s))
 
     aback : (o q : Occ) → Shown l o q ⊎ ByNumber (Named es) o q → Eqv (Shown (joins l es)) o q
     aback o q (inl (ho, hq, s)) = joined o q ho hq (inl s)
     aback o q (inr (ho, hq, n)) = joined o q ho hq (inr n)
+
+-- ---- the base of a production: all apart, then joined along its ties
+pub number-inj : (o q : Occ) → o .1 < 8 → q .1 < 8 → number o ≡ number q → o ≡ q
+number-inj o q ho hq e = Σ-path (omega arith) (omega arith)
+
+-- where every label is an occurrence's own number, nothing is shown but each with itself, and pairs joined are all that is chained
+pub base-shown : (l : List ℕ) (es : List (ℕ × ℕ)) → ((i : ℕ) → getD l i 255 < 255 → getD l i 255 ≡ i) → Ends (λ i. getD l i 255 < 255) es → (o q : Occ)
+    → Eqv (Shown (joins l es)) o q ↔ Eqv (ByNumber (Named es)) o q
+base-shown l es own h o q = let t = state-tied l es h o q in (λ c. bind only (t .0 c), λ c. t .1 (more (λ o q n. inr n) c))
+  where
+    only : (o q : Occ) → Shown l o q ⊎ ByNumber (Named es) o q → Eqv (ByNumber (Named es)) o q
+    only o q (inl (ho, hq, (bo, bq, e))) =
+        subst (Eqv (ByNumber (Named es)) o) (number-inj o q ho hq (sym (own (number o) bo) ∙ e ∙ own (number q) bq)) done
+    only o q (inr n) = fwd done n
+
+-- pairs of numbers that are ties: what they name of occurrences is what the ties do
+pub ties-numbered : (ts : List Tie) → Ends (λ o. o .1 < 8) ts → (o q : Occ) → ByNumber (Named (numbers ts)) o q ↔ Named ts o q
+unfolding Ends
+ties-numbered ts h o q = (λ (ho, hq, n). to ts h ho hq n, λ n. let e = named-ends (λ o. o .1 < 8) ts h o q n in (e .0, e .1, from ts n))
+  where
+    to : (ts : List Tie) → Ends (λ o. o .1 < 8) ts → o .1 < 8 → q .1 < 8 → Named (numbers ts) (number o) (number q) → Named ts o q
+    to [] h ho hq n = absurd n
+    to (t ∷ ts) h ho hq (inl (u, v)) = inl (number-inj o (t .0) ho (h .0) u, number-inj q (t .1) hq (h .1) v)
+    to (t ∷ ts) h ho hq (inr n) = inr (to ts (h .2) ho hq n)
+
+    from : (ts : List Tie) → Named ts o q → Named (numbers ts) (number o) (number q)
+    from [] n = absurd n
+    from (t ∷ ts) (inl (u, v)) = inl (ap number u, ap number v)
+    from (t ∷ ts) (inr n) = inr (from ts n)
 
 -- ---- dropping a slot
 module _ (s : ℕ) (l : List ℕ) (h : s * 8 + 8 ≤ length l) where
@@ -202,8 +235,9 @@ module _ (s : ℕ) (l : List ℕ) (h : s * 8 + 8 ≤ length l) where
   inside : (o : Occ) → o .1 < 8 → o .0 ≡ s → label-of (dropped s l) o ≡ 255
   inside o k e = rw e (getD-this l (s * 8) (replicate 8 255) room (o .1) 255 k ∙ getD-replicate 8 (o .1) 255 255 k)
 
-  outside : (o : Occ) → o .1 < 8 → Outside s o → label-of (dropped s l) o ≡ label-of l o
-  outside o k n =
+  -- the other slots' labels stay
+  pub dropped-other : (o : Occ) → o .1 < 8 → Outside s o → label-of (dropped s l) o ≡ label-of l o
+  dropped-other o k n =
       by-order (label-of (dropped s l) o ≡ label-of l o) (o .0) s (λ e. absurd (n e))
       (λ b. getD-before l (s * 8) (replicate 8 255) room (number o) 255 (omega arith)) (λ b. getD-after l (s * 8) (replicate 8 255) room (number o) 255 (omega arith))
 
@@ -218,10 +252,10 @@ module _ (s : ℕ) (l : List ℕ) (h : s * 8 + 8 ≤ length l) where
       to (ho, hq, (bo, bq, e)) =
           let fo = not-inside o ho bo in
           let fq = not-inside q hq bq in
-          (fo, fq, (ho, hq, subst₂ (λ a b. (a < 255) × (b < 255) × (a ≡ b)) (outside o ho fo) (outside q hq fq) (bo, bq, e)))
+          (fo, fq, (ho, hq, subst₂ (λ a b. (a < 255) × (b < 255) × (a ≡ b)) (dropped-other o ho fo) (dropped-other q hq fq) (bo, bq, e)))
 
       from : Outside s o × Outside s q × Shown l o q → Shown (dropped s l) o q
-      from (fo, fq, (ho, hq, t)) = (ho, hq, subst₂ (λ a b. (a < 255) × (b < 255) × (a ≡ b)) (sym (outside o ho fo)) (sym (outside q hq fq)) t)
+      from (fo, fq, (ho, hq, t)) = (ho, hq, subst₂ (λ a b. (a < 255) × (b < 255) × (a ≡ b)) (sym (dropped-other o ho fo)) (sym (dropped-other q hq fq)) t)
 
 -- ---- reading a code off a slot
 -- THEOREM: where all A settings of slot s have labels, the code on that slot says what the state shows there

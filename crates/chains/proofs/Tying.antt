@@ -1,24 +1,20 @@
 -- A turn of the walk over states: a code tied to a slot, and the slot dropped, is what `Result` asks for.
 use mathlib.Core.Path.{_≡_, refl, sym, ap, _∙_, subst, subst₂, Σ-path}
 use mathlib.Core.Logic.{_⊎_, inl, inr, _↔_}
-use mathlib.Core.Bool.{Bool, true, false}
-use mathlib.Core.List.{List, [], _∷_}
+use mathlib.Core.List.{List}
 use Prim.Native.Nat.{ℕ, zero, suc, _+_, _*_, _≤_, _<_}
 use native.Mathlib.Omega.{arith}
 use native.Mathlib.Decide.{decLe}
-use borrow.Author.Tests.{eq-eqb}
-use lib.Dec.{eqb}
 use lib.ListN.{length, getD}
-use Rattle.lists.specs.Pick.{pick}
 use Rattle.chains.specs.Grammar.{Occ, Grammar, Named, slots, width}
 use Rattle.chains.specs.Chain.{Eqv, done, fwd, bwd}
-use Rattle.chains.specs.Grouping.{label, unpack, Says, Alike}
+use Rattle.chains.specs.Grouping.{label, unpack, Alike}
 use Rattle.chains.specs.Labels.{index, joins}
 use Rattle.chains.specs.Gather.{InSlot, TiedTo, Result, Remaining, Outside}
 use Rattle.chains.specs.State.{number, label-of, ByNumber, Shown, dropped, pairs-from, code-pairs}
-use Rattle.chains.proofs.Closure.{trans, back, bind, more}
+use Rattle.chains.proofs.Closure.{bind, more}
 use Rattle.chains.proofs.Labels.{Ends, length-joins}
-use Rattle.chains.proofs.Appearance.{index-le, index-at, index-first}
+use Rattle.chains.proofs.Appearance.{index-at, index-first}
 use Rattle.chains.proofs.Codes.{length-unpack, unpack-at}
 use Rattle.chains.proofs.Gather.{result-map}
 use Rattle.chains.proofs.State.{state-tied, shown-ends, shown-dropped}
