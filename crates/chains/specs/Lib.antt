@@ -3,7 +3,11 @@ pub mod Grammar
 pub mod Tree
 pub mod Chain
 pub mod Grouping
+pub mod Labels
 pub mod Plausible
 pub mod Feasible
+pub mod Steps
+pub mod Gather
+pub mod State
 pub mod Numbering
 pub mod Choice
