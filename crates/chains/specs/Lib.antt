@@ -3,5 +3,6 @@ pub mod Grammar
 pub mod Tree
 pub mod Chain
 pub mod Grouping
+pub mod Labels
 pub mod Plausible
 pub mod Feasible
