@@ -1,2 +1,4 @@
 pub mod Members
 pub mod Cleared
+pub mod Memory
+pub mod Holds

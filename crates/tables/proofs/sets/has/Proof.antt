@@ -1,7 +1,6 @@
 -- Whether a member is there: the contract is met. Assumes nothing.
 use borrow.Author.Needs.{needs}
 use Rattle.tables.proofs.Members.{search-tells}
-use borrow.Author.Needs.{needs}
 use Rattle.tables.proofs.sets.has.Statement.{statement}
 use Rattle.tables.proofs.sets.has.Tie as tie
 

@@ -1,7 +1,6 @@
 -- Putting a member in meets its contract. Assumes nothing.
 use borrow.Author.Needs.{needs}
 use Rattle.tables.proofs.Members.{put-old, put-full, put-new}
-use borrow.Author.Needs.{needs}
 use Rattle.tables.proofs.sets.put.Statement.{statement}
 use Rattle.tables.proofs.sets.put.Tie as tie
 

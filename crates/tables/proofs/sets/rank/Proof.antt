@@ -1,7 +1,6 @@
 -- The rank of a member: the contract is met. Assumes nothing.
 use borrow.Author.Needs.{needs}
 use Rattle.tables.proofs.Members.{search-finds}
-use borrow.Author.Needs.{needs}
 use Rattle.tables.proofs.sets.rank.Statement.{statement}
 use Rattle.tables.proofs.sets.rank.Tie as tie
 

@@ -2,7 +2,6 @@
 use mathlib.Core.Path.{_∙_}
 use borrow.Author.Needs.{needs}
 use Rattle.tables.proofs.Cleared.{cleared-whole}
-use borrow.Author.Needs.{needs}
 use Rattle.tables.proofs.sets.wipe32.Statement.{statement}
 use Rattle.tables.proofs.sets.wipe32.Tie as tie
 
