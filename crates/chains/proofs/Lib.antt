@@ -6,3 +6,15 @@ pub mod Upward
 pub mod Labels
 pub mod Appearance
 pub mod Codes
+pub mod Decided
+pub mod Says
+pub mod Step
+pub mod WellKinded
+pub mod Gluing
+pub mod Plausible
+pub mod Feasible
+pub mod Nodes
+pub mod Read
+pub mod Around
+pub mod Downward
+pub mod Separate
