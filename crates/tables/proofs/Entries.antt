@@ -1,18 +1,17 @@
 -- The two tables are pinned: every byte of every entry, given what the sets hold.
-use mathlib.Core.Path.{_≡_, refl, sym, ap, _∙_}
-use mathlib.Core.List.{List, [], _∷_}
-use Prim.Native.Nat.{ℕ, suc, _+_, _*_, _-_, _/_, _%_, _≤_, _<_}
+use mathlib.Core.Path.{_≡_, sym, ap, _∙_}
+use mathlib.Core.List.{List}
+use Prim.Native.Nat.{ℕ, _+_, _*_, _-_, _/_, _%_, _≤_, _<_}
 use native.Mathlib.Omega.{arith}
 use native.Mathlib.Decide.{decLe}
 use lib.ListN.{length, getD, take, drop}
 use lib.Seq.{ext-getD, getD-take, getD-drop}
-use Rattle.lists.specs.Part.{part}
 use Rattle.lists.proofs.Parts.{getD-part}
 use Rattle.chains.specs.Limits.{max-kids}
 use Rattle.chains.specs.Grammar.{Occ, Grammar}
 use Rattle.chains.proofs.Says.{says-unique}
-use Rattle.ranks.specs.Entries.{up-start, up-entry, down-start, down-entry, labels, entry-bytes, none}
-use Rattle.ranks.proofs.Numbers.{UpEntryOf, up-entry-of, DownEntryOf, down-entry-of}
+use Rattle.ranks.specs.Entries.{up-start, down-start, labels, entry-bytes, none}
+use Rattle.ranks.proofs.Numbers.{up-entry-of, down-entry-of}
 use Rattle.tables.specs.Entries.{Ranked, UpTable, Labelled, DownEntry, DownTable}
 use Rattle.tables.specs.Promise.{Written}
 use Rattle.tables.specs.Memory.{Fine}

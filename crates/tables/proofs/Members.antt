@@ -2,7 +2,7 @@
 use mathlib.Core.Path.{_≡_, refl, sym, ap, _∙_, subst}
 use mathlib.Core.Bool.{Bool, true, false}
 use mathlib.Core.List.{List, List·Memᴰ}
-use Prim.Native.Nat.{ℕ, suc, _+_, _*_, _≤_, _<_}
+use Prim.Native.Nat.{ℕ, _+_, _*_, _≤_, _<_}
 use native.Mathlib.Omega.{arith}
 use borrow.Author.Tests.{ltb-true, ltb-false}
 use lib.Dec.{ltb}
@@ -16,7 +16,7 @@ use Rattle.lists.proofs.Places.{member-at, place-of, place-once}
 use Rattle.lists.proofs.Sought.{free-none, free-more}
 use Rattle.chains.specs.Limits.{max-members}
 use Rattle.tables.specs.Sets.{members, Has, member}
-use Rattle.tables.specs.Memory.{Placed, Search, Seen, Grown, Put}
+use Rattle.tables.specs.Memory.{Placed, Search, Seen, Put}
 use Rattle.tables.specs.declared.sets.Turn.the-variants.{Still, Added, Full}
 
 -- ── members by rank ──

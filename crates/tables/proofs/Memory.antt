@@ -1,15 +1,14 @@
 -- The sets while they are worked out: what a member put in leaves as it was, what it gains, and the loops of such steps.
 use mathlib.Core.Path.{_≡_, refl, sym, ap, _∙_, subst, subst₂}
-use mathlib.Core.Logic.{_⊎_, ⊎-elim}
+use mathlib.Core.Logic.{⊎-elim}
 use mathlib.Core.Bool.{Bool, true, false}
-use mathlib.Core.List.{List, List·Memᴰ}
+use mathlib.Core.List.{List}
 use Prim.Native.Nat.{ℕ, suc, _+_, _*_, _≤_, _<_}
 use native.Mathlib.Omega.{arith}
 use native.Mathlib.Decide.{ℕ-discrete}
 use borrow.Author.Count.{below-more}
-use lib.ListN.{length, getD, set, length-set}
+use lib.ListN.{length, getD, length-set}
 use lib.Seq.{getD-set-same, getD-set-other}
-use Rattle.lists.specs.Part.{part, place}
 use Rattle.lists.specs.Rising.{Rising, insert}
 use Rattle.lists.proofs.Order.{apart}
 use Rattle.lists.proofs.Parts.{place-long, place-this, place-before, place-after, getD-before, getD-after}
@@ -18,7 +17,7 @@ use Rattle.lists.proofs.Places.{rising-whole}
 use Rattle.lists.proofs.Room.{room-falls}
 use Rattle.chains.specs.Limits.{max-members}
 use Rattle.tables.specs.Sets.{members, Has, member, Over}
-use Rattle.tables.specs.Memory.{Placed, Grown, Put, Case, Fine, Kept, Turned, room}
+use Rattle.tables.specs.Memory.{Placed, Grown, Put, Fine, Kept, Turned, room}
 use Rattle.tables.specs.declared.sets.Turn.{Turn}
 use Rattle.tables.specs.declared.sets.Turn.the-variants.{Still, Added, Full}
 use Rattle.tables.proofs.Members.{members-long}

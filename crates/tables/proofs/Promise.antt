@@ -1,23 +1,18 @@
 -- The promise of the build pins its answer and all memory that is lent to it.
 use mathlib.Core.Path.{_≡_, refl, sym, ap, ap₂, _∙_, subst, subst₂}
-use mathlib.Core.Logic.{_⊎_, inl, inr}
-use mathlib.Core.List.{List, [], _∷_}
+use mathlib.Core.Logic.{inl, inr}
+use mathlib.Core.List.{List}
 use Prim.Native.Nat.{ℕ, _*_, _≤_, _<_}
 use native.Mathlib.Omega.{arith}
 use lib.ListN.{length, getD}
 use Rattle.lists.specs.Refusals.{Said, accepted, refused, First}
 use Rattle.lists.proofs.Refusals.{first-once}
 use Rattle.chains.specs.Limits.{max-members}
-use Rattle.chains.specs.Grammar.{Grammar}
-use Rattle.chains.specs.Plausible.{Plausible}
-use Rattle.chains.specs.Feasible.{Feasible}
 use Rattle.book.specs.Format.{kinds, prods, grammar}
 use Rattle.book.specs.Refusals as book
 use Rattle.ranks.specs.Entries.{entry-bytes}
-use Rattle.tables.specs.Sets.{Holds}
 use Rattle.tables.specs.Entries.{UpTable, DownTable}
 use Rattle.tables.specs.Promise.{Lent, up-entries, down-entries, Applies, of-book, short-slice, left-by, Written, Built, BuildDue}
-use Rattle.tables.specs.Memory.{Fine}
 use Rattle.tables.proofs.Holds.{holds-fine, holds-once}
 use Rattle.tables.proofs.Entries.{LabelledOnce, written-once, up-once, down-once}
 

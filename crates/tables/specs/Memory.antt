@@ -4,7 +4,7 @@ use mathlib.Core.Bool.{Bool, true, false}
 use mathlib.Core.List.{List, List·Memᴰ, _++_}
 use Prim.Native.Nat.{ℕ, suc, _+_, _*_, _≤_, _<_}
 use lib.ListN.{length, getD, set, drop, replicate}
-use Rattle.lists.specs.Part.{part, place}
+use Rattle.lists.specs.Part.{place}
 use Rattle.lists.specs.Rising.{Rising, insert}
 use Rattle.lists.specs.Room as lists
 use Rattle.lists.specs.Sought.{Free}

@@ -1,7 +1,6 @@
 -- The first places cleared: the contract is met. Assumes nothing.
 use Prim.Native.Nat.{_-_}
 use native.Mathlib.Omega.{arith}
-use borrow.Author.Needs.{needs}
 use Rattle.lists.proofs.Filled.{Filling, fill-begun, fill-turn, fill-done}
 use Rattle.tables.proofs.sets.clear8.Statement.{statement}
 use Rattle.tables.proofs.sets.clear8.Tie as tie
