@@ -1,7 +1,7 @@
 -- The two tables are pinned: every byte of every entry, given what the sets hold.
-use mathlib.Core.Path.{_≡_, sym, ap, _∙_}
-use mathlib.Core.List.{List}
-use Prim.Native.Nat.{ℕ, _+_, _*_, _-_, _/_, _%_, _≤_, _<_}
+use mathlib.Core.Path.{_≡_, refl, sym, ap, ap₂, _∙_}
+use mathlib.Core.List.{List, [], _∷_}
+use Prim.Native.Nat.{ℕ, zero, suc, _+_, _*_, _-_, _/_, _%_, _≤_, _<_}
 use native.Mathlib.Omega.{arith}
 use native.Mathlib.Decide.{decLe}
 use lib.ListN.{length, getD, take, drop}
@@ -10,10 +10,10 @@ use Rattle.lists.proofs.Parts.{getD-part}
 use Rattle.chains.specs.Limits.{max-kids}
 use Rattle.chains.specs.Grammar.{Occ, Grammar}
 use Rattle.chains.proofs.Says.{says-unique}
-use Rattle.ranks.specs.Entries.{up-start, down-start, labels, entry-bytes, none}
+use Rattle.ranks.specs.Entries.{choices, up-start, down-start, labels, entry-bytes, none}
 use Rattle.ranks.proofs.Numbers.{up-entry-of, down-entry-of}
 use Rattle.tables.specs.Entries.{Ranked, UpTable, Labelled, DownEntry, DownTable}
-use Rattle.tables.specs.Promise.{Written}
+use Rattle.tables.specs.Promise.{up-entries, down-entries, Written}
 use Rattle.tables.specs.Memory.{Fine}
 use Rattle.tables.proofs.Members.{rank-once}
 use Rattle.tables.proofs.Memory.{fine-placed}
@@ -82,3 +82,34 @@ module _ (labelled-once : LabelledOnce) (G : Grammar) (kids-in : (p j : ℕ) →
       let same = rw (e .made) at (entry-once (e .prod-below) u u′ y l) in
       let z : x * entry-bytes + y ≡ i = omega arith in
       rw z at (sym (getD-part (x * entry-bytes) entry-bytes down y none l) ∙ same ∙ getD-part (x * entry-bytes) entry-bytes down′ y none l)
+
+-- ── the numbers of entries ──
+-- counts that agree on the kinds ks give the same number of choices
+choices-same : (c c′ ks : List ℕ) → ((j : ℕ) → j < length ks → getD c (getD ks j 0) 0 ≡ getD c′ (getD ks j 0) 0) → choices c ks ≡ choices c′ ks
+unfolding choices
+choices-same c c′ [] h = refl
+choices-same c c′ (k ∷ ks) h = ap₂ _*_ (h 0 (omega arith)) (choices-same c c′ ks (λ j l. h (suc j) (omega arith)))
+
+module _ (G : Grammar) (kids-in : (p j : ℕ) → p < G .prods → j < length (G .kids p) → getD (G .kids p) j 0 < G .kinds)
+    (c c′ : List ℕ) (same : (k : ℕ) → k < G .kinds → getD c k 0 ≡ getD c′ k 0) where
+  kids-same : (p : ℕ) → p < G .prods → choices c (G .kids p) ≡ choices c′ (G .kids p)
+  kids-same p h = choices-same c c′ (G .kids p) (λ j l. same (getD (G .kids p) j 0) (kids-in p j h l))
+
+  up-start-same : (p : ℕ) → p ≤ G .prods → up-start G c p ≡ up-start G c′ p
+  unfolding up-start
+  up-start-same zero h = refl
+  up-start-same (suc p) h = ap₂ _+_ (up-start-same p (omega arith)) (kids-same p h)
+
+  -- THEOREM: counts that agree on the grammar's kinds give the same number of up entries
+  pub up-entries-same : up-entries G c ≡ up-entries G c′
+  up-entries-same = up-start-same (G .prods) (omega arith)
+
+  module _ (left-in : (p : ℕ) → p < G .prods → G .left p < G .kinds) (d d′ : List ℕ) (same-d : (k : ℕ) → k < G .kinds → getD d k 0 ≡ getD d′ k 0) where
+    down-start-same : (p : ℕ) → p ≤ G .prods → down-start G c d p ≡ down-start G c′ d′ p
+    unfolding down-start
+    down-start-same zero h = refl
+    down-start-same (suc p) h = ap₂ _+_ (down-start-same p (omega arith)) (ap₂ _*_ (same-d (G .left p) (left-in p h)) (kids-same p h))
+
+    -- THEOREM: and of down entries
+    pub down-entries-same : down-entries G c d ≡ down-entries G c′ d′
+    down-entries-same = down-start-same (G .prods) (omega arith)
