@@ -13,8 +13,15 @@ pub mod WellKinded
 pub mod Gluing
 pub mod Plausible
 pub mod Feasible
+pub mod Gather
+pub mod Choices
 pub mod Nodes
 pub mod Read
 pub mod Around
 pub mod Downward
 pub mod Separate
+pub mod Number
+pub mod Occurrences
+pub mod Walk
+pub mod Alike
+pub mod Entries

@@ -11,6 +11,7 @@ use Rattle.chains.specs.Tree.{Bush, nil, grow, Kinded}
 use Rattle.chains.specs.Chain.{Eqv, done, Chain, Slotwise, Closure}
 use Rattle.chains.specs.Grouping.{Says, Alike, Each, Members}
 use Rattle.chains.specs.Plausible.{Plausible}
+use Rattle.chains.specs.Steps.{StepUp}
 use Rattle.chains.proofs.Local.{join-mono}
 use Rattle.chains.proofs.Upward.{Up, chain-iff-up}
 use Rattle.chains.proofs.WellKinded.{kinded-fits}
@@ -39,8 +40,7 @@ InRange G f ks = (j a b : ℕ) → Up G f j a b → (a ≡ b) ⊎ ((j < length k
 
 -- the step of the upward pass keeps within S
 abbrev pub ClosedUp : Grammar → (ℕ → ℕ → Type 0) → Type 0
-ClosedUp G S = (p : ℕ) (cs : List ℕ) (d : ℕ) → p < G .prods → Members S (G .kids p) cs
-    → Says (G .settings (G .left p)) d (λ a b. Closure G p (Slotwise (λ a b. ⊥) (Each G (G .kids p) cs)) (0, a) (0, b)) → S (G .left p) d
+ClosedUp G S = (p d : ℕ) → p < G .prods → StepUp G S p d → S (G .left p) d
 
 module _ (G : Grammar) (L : Lawful G) where
   -- where the codes tell what the trees do, the closure of either is the other's
@@ -68,9 +68,9 @@ module _ (G : Grammar) (L : Lawful G) where
         let (es, ms, td) = forest-codes ds (G .kids p) hd in
         let (cs, ns, te) = forest-codes rest ks hr in
         let (c, s) = up-exists G L p hp es in
-        let good : Good (G .left p) c = (closed p es c hp (members-map Good S (λ k c g. g .0) (G .kids p) es ms) s, (s .low, s .first)) in
+        let good : Good (G .left p) c = (closed p c hp (es, members-map Good S (λ k c g. g .0) (G .kids p) es ms, s), (s .low, s .first)) in
         let root : First G (grow p ds rest) (G .left p) c =
-          λ a b. (λ r. told-closure p ds es td a b .0 (up-alike G L p hp c es s a b .0 r), λ r. up-alike G L p hp c es s a b .1 (told-closure p ds es td a b .1 r)) in
+        λ a b. (λ r. told-closure p ds es td a b .0 (up-alike G L p hp c es s a b .0 r), λ r. up-alike G L p hp c es s a b .1 (told-closure p ds es td a b .1 r)) in
         (c ∷ cs, (subst (λ k. Good k c) e good, ns), told-cons G p ds rest ks k c cs (subst (λ k. First G (grow p ds rest) k c) e root) te)
 
     tree-code : (f : Bush) (k : ℕ) → Kinded G f (k ∷ []) → (c : ℕ) × S k c × Says (G .settings k) c (λ a b. Chain G f 0 (0, a) (0, b))
@@ -81,9 +81,13 @@ module _ (G : Grammar) (L : Lawful G) where
         only : (cs : List ℕ) → Members Good (k ∷ []) cs → Told G (grow p ds nil) (k ∷ []) cs → (c : ℕ) × S k c × Says (G .settings k) c (λ a b. Chain G (grow p ds nil) 0 (0, a) (0, b))
         only [] m t = absurd m
         only (c ∷ (c′ ∷ cs)) m t = absurd (m .1)
-        only (c ∷ []) m t = (c, m .0 .0, alike-says G k c (λ a b. Chain G (grow p ds nil) 0 (0, a) (0, b)) (m .0 .1) (λ a b.
-            let u = chain-iff-up G (grow p ds nil) 0 0 0 a b (kinded-fits G L (grow p ds nil) (k ∷ []) h) refl in
-            (λ r. u .1 (t 0 a b .0 r), λ r. t 0 a b .1 (u .0 r))))
+        only (c ∷ []) m t = (
+          c,
+          m .0 .0,
+          alike-says G k c (λ a b. Chain G (grow p ds nil) 0 (0, a) (0, b)) (m .0 .1) (λ a b.
+              let u = chain-iff-up G (grow p ds nil) 0 0 0 a b (kinded-fits G L (grow p ds nil) (k ∷ []) h) refl in
+              (λ r. u .1 (t 0 a b .0 r), λ r. t 0 a b .1 (u .0 r))),
+        )
 
     -- THEOREM: a closed family has every plausible code
     pub plausible-complete : (k c : ℕ) → Plausible G k c → S k c
@@ -91,7 +95,7 @@ module _ (G : Grammar) (L : Lawful G) where
 
   -- THEOREM: every well-kinded tree has a code that says its chains at its root
   pub tree-says : (f : Bush) (k : ℕ) → Kinded G f (k ∷ []) → (c : ℕ) × Says (G .settings k) c (λ a b. Chain G f 0 (0, a) (0, b))
-  tree-says f k h = let (c, u, s) = tree-code (λ k c. Unit {0}) (λ p cs d hp m s. tt) f k h in (c, s)
+  tree-says f k h = let (c, u, s) = tree-code (λ k c. Unit {0}) (λ p d hp s. tt) f k h in (c, s)
 
   pub tree-plausible : (f : Bush) (k : ℕ) → Kinded G f (k ∷ []) → (c : ℕ) × Plausible G k c
   tree-plausible f k h = let (c, s) = tree-says f k h in (c, (f, h, s))
@@ -137,13 +141,16 @@ module _ (G : Grammar) (L : Lawful G) where
 
   -- THEOREM: plausible codes of the children give a plausible code of the left kind
   pub plausible-sound : ClosedUp G (Plausible G)
-  plausible-sound p cs d hp ms s =
+  plausible-sound p d hp (cs, ms, s) =
       let (f, h, t) = side-by-side (G .kids p) cs ms in
-      let tree : Kinded G (grow p f nil) (G .left p ∷ []) = ((hp, refl), h, tt) in
-      (grow p f nil, tree, says-map s (λ a b ha hb.
-          let u = chain-iff-up G (grow p f nil) 0 0 0 a b (kinded-fits G L (grow p f nil) (G .left p ∷ []) tree) refl in
-          let v = told-closure p f cs t a b in
-          (λ r. u .1 (v .0 r), λ r. v .1 (u .0 r))))
+      let tree : Kinded G (grow p f nil) (G .left p ∷ []) = ((hp, refl), h, tt) in (
+        grow p f nil,
+        tree,
+        says-map s (λ a b ha hb.
+            let u = chain-iff-up G (grow p f nil) 0 0 0 a b (kinded-fits G L (grow p f nil) (G .left p ∷ []) tree) refl in
+            let v = told-closure p f cs t a b in
+            (λ r. u .1 (v .0 r), λ r. v .1 (u .0 r))),
+      )
 
   -- THEOREM: a closed family of plausible codes holds exactly the plausible ones
   pub plausible-iff : (S : ℕ → ℕ → Type 0) → ClosedUp G S → ((k c : ℕ) → S k c → Plausible G k c) → (k c : ℕ) → S k c ↔ Plausible G k c

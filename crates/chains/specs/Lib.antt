@@ -6,3 +6,7 @@ pub mod Grouping
 pub mod Labels
 pub mod Plausible
 pub mod Feasible
+pub mod Steps
+pub mod Gather
+pub mod Numbering
+pub mod Choice
