@@ -3,5 +3,10 @@ pub mod Grammar
 pub mod Tree
 pub mod Chain
 pub mod Grouping
+pub mod Labels
 pub mod Plausible
 pub mod Feasible
+pub mod Steps
+pub mod Gather
+pub mod Numbering
+pub mod Choice
