@@ -10,6 +10,7 @@ use Rattle.ranks.specs.declared.UpRead.{UpRead}
 use Rattle.ranks.specs.declared.UpRead.the-variants as up
 use Rattle.ranks.specs.declared.DownRead.{DownRead}
 use Rattle.ranks.specs.declared.DownRead.the-variants as down
+use Rattle.ranks.specs.Entries.{none}
 use Rattle.ranks.specs.Reads.{Found, found, past, numbers, up-said, down-said, UpFinds, DownFinds, label-at, child-rank-at}
 use Rattle.ranks.proofs.Bytes.{byte-any}
 
@@ -28,7 +29,7 @@ numbers-at (r ∷ l) (suc i) d h = numbers-at l i d (omega arith)
 -- ── what is found ──
 -- the byte at the entry's number, however that was worked out
 pub up-there : (s : List ℕ) (x e : ℕ) → x ≡ e → x < length s → UpFinds s e (found (getD s x 0))
-up-there s x e h l = (omega arith, byte-any s x 0 255 l ∙ ap (λ i. getD s i 255) h)
+up-there s x e h l = (omega arith, byte-any s x 0 none l ∙ ap (λ i. getD s i none) h)
 
 -- ── THEOREMS: two answers that keep one promise are the same ──
 up-found-once : (s : List ℕ) (e : ℕ) (a b : Found) → UpFinds s e a → UpFinds s e b → a ≡ b
@@ -68,9 +69,17 @@ read-up-once s e r r′ h h′ = sym (up-same r) ∙ ap up-back (up-found-once s
 pub read-down-once : (s : List ℕ) (e : ℕ) (r r′ : DownRead) → DownFinds s e (down-said r) → DownFinds s e (down-said r′) → r ≡ r′
 read-down-once s e r r′ h h′ = sym (down-same r) ∙ ap down-back (down-found-once s e (down-said r) (down-said r′) h h′) ∙ down-same r′
 
--- a child's rank in an entry, and the rank that the root starts with: x is what the promise says
-pub rank-once : (x : ℕ) (r r′ : Feasible) → r .0 ≡ x → r′ .0 ≡ x → r ≡ r′
-rank-once x r r′ h h′ = ap made (h ∙ sym h′)
+feasible-once : {x : ℕ} (r r′ : Feasible) → r .0 ≡ x → r′ .0 ≡ x → r ≡ r′
+feasible-once r r′ h h′ = ap made (h ∙ sym h′)
   where
     made : ℕ → Feasible
     made y = record { 0 = y }
+
+pub child-rank-once : (s : List ℕ) (e j : ℕ) (r r′ : Feasible) → r .0 ≡ child-rank-at s e j → r′ .0 ≡ child-rank-at s e j → r ≡ r′
+child-rank-once s e j r r′ h h′ = feasible-once r r′ h h′
+
+pub label-once : (s : List ℕ) (e o x x′ : ℕ) → x ≡ label-at s e o → x′ ≡ label-at s e o → x ≡ x′
+label-once s e o x x′ h h′ = h ∙ sym h′
+
+pub started-once : (p : Plausible) (r r′ : Feasible) → r .0 ≡ p .0 → r′ .0 ≡ p .0 → r ≡ r′
+started-once p r r′ h h′ = feasible-once r r′ h h′

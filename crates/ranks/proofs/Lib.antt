@@ -4,3 +4,4 @@ pub mod Numbers
 pub mod Counting
 pub mod Bytes
 pub mod Finds
+pub mod Padded

@@ -1,13 +1,16 @@
 // Ranks in the plausible and in the feasible sets, and the reads of the two tables, which take and give only their own kind.
 ghost use mathlib.Core.Path.{_≡_};
-ghost use Prim.Native.Nat.{_+_, _*_, _<_};
+ghost use Prim.Native.Nat.{suc, _+_, _*_, _^_, _<_};
 ghost use lib.ListN.{getD};
+ghost use Rattle.chains.specs.Limits.{max-kids};
 ghost use Rattle.ranks.specs.Entries.{choices, choice, entry-bytes, none};
 ghost use Rattle.ranks.specs.Reads.{up-said, down-said, numbers, places, up-number, down-number, UpFinds, DownFinds, entry-at, label-at, child-rank-at};
 
 // The children of a production, and a down entry: a label for each occurrence, then a rank for each child.
 pub const KIDS: usize = 4;
+
 const LABELS: usize = 40;
+
 const ENTRY: usize = 44;
 // The absence of a label or a rank.
 const NONE: u8 = 255;
@@ -34,7 +37,7 @@ fn wide(x: u8) -> u64
 
 // The number of a choice, child 1's rank counting most, under a digit that counts more than all of them.
 fn numbered(most: u8, counts: [u8; KIDS], ranks: [Plausible; KIDS]) -> u64
-    ensures { λ r. ⌜ (r ≡ most * choices counts places + choice counts places (numbers ranks)) × (r < 1099511627776) ⌝ }
+    ensures { λ r. ⌜ (r ≡ most * choices counts places + choice counts places (numbers ranks)) × (r < 256 ^ suc max-kids) ⌝ }
 {
     let mut number = wide(most);
     let mut i = 0;
@@ -63,7 +66,13 @@ pub fn read_up(up: &[u8], start: u64, counts: [u8; KIDS], ranks: [Plausible; KID
 }
 
 // The number of the down entry of a feasible rank and a choice, where the entry is whole within the slice.
-pub fn read_down(down: &[u8], start: u64, counts: [u8; KIDS], f: Feasible, ranks: [Plausible; KIDS]) -> DownRead
+pub fn read_down(
+    down: &[u8],
+    start: u64,
+    counts: [u8; KIDS],
+    f: Feasible,
+    ranks: [Plausible; KIDS],
+) -> DownRead
     ensures { λ r. ⌜ DownFinds (now (down .entry)) (down-number start counts (f .0) (numbers ranks)) (down-said r) ⌝ }
 {
     let whole = (down.len() / ENTRY) as u64;
@@ -108,7 +117,11 @@ pub fn child_rank(down: &[u8], entry: u64, j: usize) -> Feasible
 pub fn label(down: &[u8], entry: u64, o: usize) -> u8
     ensures { λ r. ⌜ r ≡ label-at (now (down .entry)) entry o ⌝ }
 {
-    if o < LABELS { byte_of(down, entry, o) } else { NONE }
+    if o < LABELS {
+        byte_of(down, entry, o)
+    } else {
+        NONE
+    }
 }
 
 // The root's feasible rank is its plausible rank. Nowhere else does one kind of rank become the other.

@@ -4,3 +4,4 @@ pub mod Memory
 pub mod Holds
 pub mod Entries
 pub mod Promise
+pub mod BitSets

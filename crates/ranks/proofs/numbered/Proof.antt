@@ -1,68 +1,58 @@
-use Rattle.ranks.proofs.numbered.Statement.{statement}
-use Rattle.ranks.proofs.numbered.Tie as tie
-use Rattle.ranks.proofs.numbered.Reads as reads
-use Rattle.ranks.proofs.numbered.Lts as lts
-use Rattle.ranks.proofs.wide.Reads as wide-reads
+-- The number grows by a digit with each child: its count is the weight of those before, its rank the new digit.
+use mathlib.Core.Path.{_∙_}
+use Prim.Native.Nat.{_+_, _-_, _*_, _<_}
+use native.Mathlib.Omega.{arith}
+use lib.ListN.{length}
+use borrow.Author.Needs.{needs}
+use Rattle.chains.specs.Limits.{max-kids}
 use Rattle.ranks.specs.Reads.{numbers}
 use Rattle.ranks.proofs.Counting.{Counting, counting-none, counting-step, counting-sum, counting-small, counting-done}
-use native.Mathlib.Omega.{arith}
-use borrow.Author.Needs.{needs}
-use Prim.Native.Nat.{_-_, _+_, _*_, _<_}
-use lib.ListN.{getD, length}
 use Rattle.ranks.proofs.Finds.{numbers-long, numbers-at}
-use mathlib.Core.Path.{_∙_}
+use Rattle.ranks.proofs.numbered.Statement.{statement}
+use Rattle.ranks.proofs.numbered.Tie as tie
 
 abbrev Inv-loop : tie.InvT-loop
-Inv-loop most counts ranks number₀ i₀ number i = Counting 4 most counts (numbers ranks) number i
+Inv-loop most counts ranks number₀ i₀ number i = Counting max-kids most counts (numbers ranks) number i
 
 abbrev μ-loop : tie.MeasureT-loop
-μ-loop most counts ranks number₀ i₀ number i = 4 - i
+μ-loop most counts ranks number₀ i₀ number i = max-kids - i
 
--- src/lib.rt:38:9
 wide-requires : tie.Need-wide-requires Inv-loop μ-loop
 wide-requires c κs = search needs
 
--- src/lib.rt:40:5
 loop-holds : tie.Need-loop-holds Inv-loop μ-loop
-loop-holds c = counting-none 4 (c .before .args .most) (c .before .args .t2) (numbers (c .before .args .t3)) (c .wide .ensures .0) (c .wide .ensures .1)
+loop-holds c =
+    let a = c .before .args in
+    counting-none max-kids (a .most) (a .t2) (numbers (a .t3)) (c .wide .ensures .0) (c .wide .ensures .1)
 
--- src/lib.rt:41:17
 array-copy-out-r : tie.Need-array-copy-out-r Inv-loop μ-loop
 array-copy-out-r c = search needs
 
--- src/lib.rt:42:32
 array-read-wide : tie.Need-array-read-wide Inv-loop μ-loop
 array-read-wide c = search needs
 
--- src/lib.rt:42:27
 wide-requires-2 : tie.Need-wide-requires-2 Inv-loop μ-loop
 wide-requires-2 c κs = search needs
 
--- src/lib.rt:42:18
 mul-number : tie.Need-mul-number Inv-loop μ-loop
 mul-number c =
     let l = c .before .before .before .loop in
     omega (arith, counting-sum (l .inv) (omega arith) {r = 0} (c .wide2 .ensures .1) (omega arith))
 
--- src/lib.rt:42:45
 wide-requires-3 : tie.Need-wide-requires-3 Inv-loop μ-loop
 wide-requires-3 c κs = search needs
 
--- src/lib.rt:42:18
 add-number : tie.Need-add-number Inv-loop μ-loop
 add-number c =
     let l = c .before .before .before .before .loop in
     omega (arith, counting-sum (l .inv) (omega arith) (c .before .wide2 .ensures .1) (c .wide3 .ensures .1))
 
--- src/lib.rt:43:9
 add-i : tie.Need-add-i Inv-loop μ-loop
 add-i c = search needs
 
--- src/lib.rt:40:5
 loop-less : tie.Need-loop-less Inv-loop μ-loop
 loop-less c = search needs
 
--- src/lib.rt:40:5
 loop-again : tie.Need-loop-again Inv-loop μ-loop
 loop-again c =
     let a = c .before .before .before .before .before .before .args in
@@ -71,7 +61,6 @@ loop-again c =
     counting-step (l .inv) (omega arith) (omega (arith, numbers-long (a .t3))) (c .before .wide2 .ensures .0) (c .before .wide2 .ensures .1)
     (c .wide3 .ensures .0 ∙ numbers-at (a .t3) (l .i) _ h) (c .wide3 .ensures .1)
 
--- src/lib.rt:35:1
 returns : tie.Need-returns Inv-loop μ-loop
 returns c = (counting-done (c .before .loop .inv) (omega arith), counting-small (c .before .loop .inv))
 
