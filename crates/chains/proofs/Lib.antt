@@ -1,0 +1,12 @@
+pub mod Closure
+pub mod Range
+pub mod Forest
+pub mod Local
+pub mod Upward
+pub mod WellKinded
+pub mod Gluing
+pub mod Nodes
+pub mod Read
+pub mod Around
+pub mod Downward
+pub mod Separate
