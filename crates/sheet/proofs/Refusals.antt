@@ -64,20 +64,107 @@ fault-high (unknown u) = omega arith
 fault-high (unfit u) = omega arith
 fault-high (deep u) = omega arith
 
--- sooner by turn, by place, or by number
-data Earlier (m q n p : ℕ) : Type 0 where
-  by-turn : m < n → m < 21 → Earlier m q n p
-  by-place : q < p → Earlier m q n p
-  by-number : q ≡ p → m < n → Earlier m q n p
-
-earlier : (m q n p : ℕ) → Sooner (turn (m, q)) (turn (n, p)) → Earlier m q n p
-earlier m q n p s = go (decLt m 21) (decLt n 21) s
+-- below 21 turns go as in the book's table: by number, then by place
+sooner-low : (m q n p : ℕ) → n < 21 → Sooner (turn (m, q)) (turn (n, p)) → Sooner (m ∷ q ∷ []) (n ∷ p ∷ [])
+sooner-low m q n p h s = go (decLt m 21) (rw (lt-ltb n 21 h) at s)
   where
-    go : Dec (m < 21) → Dec (n < 21) → Sooner (turn (m, q)) (turn (n, p)) → Earlier m q n p
-    go (yes h) (yes k) (inl s) = by-turn (rw (lt-ltb m 21 h, lt-ltb n 21 k) at s) h
-    go (yes h) (no k) (inl s) = by-turn (omega arith) h
-    go (no h) (yes k) (inl s) = absurd (let t : 21 < n = rw (le-ltb m 21 (omega arith), lt-ltb n 21 k) at s in omega arith)
-    go (no h) (no k) (inl s) = absurd (let t : 21 < 21 = rw (le-ltb m 21 (omega arith), le-ltb n 21 (omega arith)) at s in omega arith)
-    go h k (inr (e, inl s)) = by-place s
-    go h k (inr (e, inr (f, inl s))) = by-number f s
-    go h k (inr (e, inr (f, inr (g, s)))) = absurd s
+    go : Dec (m < 21) → Sooner (turn (m, q)) (n ∷ p ∷ n ∷ []) → Sooner (m ∷ q ∷ []) (n ∷ p ∷ [])
+    go (yes k) s = low (rw (lt-ltb m 21 k) at s)
+      where
+        low : Sooner (m ∷ q ∷ m ∷ []) (n ∷ p ∷ n ∷ []) → Sooner (m ∷ q ∷ []) (n ∷ p ∷ [])
+        low (inl x) = inl x
+        low (inr (e, inl x)) = inr (e, inl x)
+        low (inr (e, inr (f, inl x))) = inl x
+        low (inr (e, inr (f, inr (g, x)))) = absurd x
+    go (no k) s = high (rw (le-ltb m 21 (omega arith)) at s)
+      where
+        high : Sooner (21 ∷ q ∷ m ∷ []) (n ∷ p ∷ n ∷ []) → Sooner (m ∷ q ∷ []) (n ∷ p ∷ [])
+        high (inl x) = absurd (omega arith)
+        high (inr (e, x)) = absurd (omega arith)
+
+sooner-most : (m q n p : ℕ) → Sooner (m ∷ q ∷ []) (n ∷ p ∷ []) → m ≤ n
+sooner-most m q n p (inl x) = omega arith
+sooner-most m q n p (inr (e, x)) = omega arith
+
+-- from 21 on they go by place, then by number
+sooner-high : (m q n p : ℕ) → 20 < m → 20 < n → Sooner (turn (m, q)) (turn (n, p)) → (q < p) ⊎ ((q ≡ p) × (m < n))
+sooner-high m q n p h k s = go (rw (le-ltb m 21 h, le-ltb n 21 k) at s)
+  where
+    go : Sooner (21 ∷ q ∷ m ∷ []) (21 ∷ p ∷ n ∷ []) → (q < p) ⊎ ((q ≡ p) × (m < n))
+    go (inl x) = absurd (omega arith)
+    go (inr (e, inl x)) = inl x
+    go (inr (e, inr (f, inl x))) = inr (f, x)
+    go (inr (e, inr (f, inr (g, x)))) = absurd x
+
+-- ── what is due ──
+-- a byte that stood where it was due is no fault
+fitting : {G : Grammar} {l : List ℕ} {i n : ℕ} (t : Passed G l i) → Fault G l i ((t .kind, t .level) ∷ t .rest) n → ⊥
+fitting t (unknown u) = let h = t .heads .0 in omega arith
+fitting t (unfit (inl e)) = omega arith
+fitting t (unfit (inr u)) = u .1 (t .heads .1)
+fitting t (deep u) = omega arith
+
+faultless : {G : Grammar} {l : List ℕ} {i n : ℕ} {ds : List Node} → Passed G l i → Read G l i ds → Fault G l i ds n → ⊥
+faultless {G} {l} {i} {n} {ds} t r f = fitting t (subst (λ (es : List Node). Fault G l i es n) (read-once r (t .was-due)) f)
+
+-- at the end, with nothing due, there is no fault
+ended : {G : Grammar} {l : List ℕ} {i n : ℕ} → length l ≤ i → Fault G l i [] n → ⊥
+ended h (unknown u) = omega arith
+ended h (unfit u) = omega arith
+ended h (deep u) = u
+
+-- refusals 1 to 8 come before all that the sheet can give
+pub book-refused : {b : List ℕ} (l : List ℕ) {n p : ℕ} → book.BookDue b (refused n p) → SheetDue b l (refused n p)
+book-refused {b} l {n} {p} ((m, q), en, ep, (a, first)) = ((m, q), en, ep, (of-book a, λ j s r. before j (sooner-low (j .0) (j .1) m q (omega (arith, book-low a)) s) (row r)))
+  where
+    before : (j : ℕ × ℕ) → Sooner (j .0 ∷ j .1 ∷ []) (m ∷ q ∷ []) → Row b l (j .0) (j .1) → ⊥
+    before j s (books r) = first j s r
+    before j s (lengths x y h) = omega (arith, sooner-most (j .0) (j .1) m q s, book-low a)
+    before j s (reads ds r f) = omega (arith, sooner-most (j .0) (j .1) m q s, book-low a, fault-high f)
+
+right-length : (l : List ℕ) → 0 < length l → length l ≤ max-nodes → (length l ≡ 0) ⊎ (max-nodes < length l) → ⊥
+right-length l some few (inl h) = omega arith
+right-length l some few (inr h) = omega arith
+
+module _ {b l : List ℕ} (sound : Sound b) where
+  pub length-refused : (length l ≡ 0) ⊎ (max-nodes < length l) → SheetDue b l (refused 20 0)
+  length-refused h = ((20, 0), refl, refl, (bad-length h, λ j s r. before j (sooner-low (j .0) (j .1) 20 0 (omega arith) s) (row r)))
+    where
+      before : (j : ℕ × ℕ) → Sooner (j .0 ∷ j .1 ∷ []) (20 ∷ 0 ∷ []) → Row b l (j .0) (j .1) → ⊥
+      before j s (books r) = sound j r
+      before j (inl s) (lengths x y k) = omega arith
+      before j (inr (e, inl s)) (lengths x y k) = omega arith
+      before j (inr (e, inr (f, s))) (lengths x y k) = s
+      before j s (reads ds r f) = omega (arith, sooner-most (j .0) (j .1) 20 0 s, fault-high f)
+
+  module _ (some : 0 < length l) (few : length l ≤ max-nodes) where
+    pub stop-refused : {n p : ℕ} → Stop (grammar b) l n p → SheetDue b l (refused n p)
+    stop-refused {n} {p} t = ((n, p), refl, refl, (fault-applies (t .was-due) (t .fault), λ j s r. before j s (row r)))
+      where
+        here : (j : ℕ × ℕ) (ds : List Node) → Read (grammar b) l (j .1) ds → Fault (grammar b) l (j .1) ds (j .0) → (j .1 < p) ⊎ ((j .1 ≡ p) × (j .0 < n)) → ⊥
+        here j ds r f (inl h) = faultless (passed (t .was-due) h) r f
+        here j ds r f (inr (e, h)) =
+            let r′ : Read (grammar b) l p ds = subst (λ i. Read (grammar b) l i ds) e r in
+            let f′ : Fault (grammar b) l p ds (j .0) = subst (λ i. Fault (grammar b) l i ds (j .0)) e f in
+            t .lowest (j .0) h (subst (λ (es : List Node). Fault (grammar b) l p es (j .0)) (read-once r′ (t .was-due)) f′)
+
+        before : (j : ℕ × ℕ) → Sooner (turn j) (turn (n, p)) → Row b l (j .0) (j .1) → ⊥
+        before j s (books r) = sound j r
+        before j s (lengths x y k) = right-length l some few k
+        before j s (reads ds r f) = here j ds r f (sooner-high (j .0) (j .1) n p (fault-high f) (fault-high (t .fault)) s)
+
+    -- a sheet that is read to its end, with nothing due after it, is accepted
+    pub read-accepted : Read (grammar b) l (length l) [] → SheetDue b l (accepted (length l ∷ settings-of (grammar b) l ∷ []))
+    read-accepted t = (refl, λ j r. none j (row r))
+      where
+        at-end : (i n : ℕ) (ds : List Node) → Read (grammar b) l i ds → Fault (grammar b) l i ds n → Dec (i < length l) → ⊥
+        at-end i n ds r f (yes h) = faultless (passed t h) r f
+        at-end i n ds r f (no h) =
+            let e : i ≡ length l = omega (arith, read-within r) in
+            let r′ : Read (grammar b) l (length l) ds = subst (λ i. Read (grammar b) l i ds) e r in
+            ended (omega arith) (subst (λ (es : List Node). Fault (grammar b) l i es n) (read-once r′ t) f)
+
+        none : (j : ℕ × ℕ) → Row b l (j .0) (j .1) → ⊥
+        none j (books r) = sound j r
+        none j (lengths x y k) = right-length l some few k
+        none j (reads ds r f) = at-end (j .1) (j .0) ds r f (decLt (j .1) (length l))
