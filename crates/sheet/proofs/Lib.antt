@@ -1,3 +1,5 @@
 pub mod Reading
 pub mod Refusals
+pub mod Stops
 pub mod Trees
+pub mod Walk
