@@ -3,7 +3,7 @@ use mathlib.Core.Path.{_≡_}
 use mathlib.Core.List.{List, [], _∷_}
 use Prim.Native.Nat.{ℕ, suc, _+_, _*_, _≤_, _<_}
 use lib.ListN.{length, getD, take}
-use Rattle.chains.specs.Limits.{max-prods, max-settings, max-nodes, max-levels}
+use Rattle.chains.specs.Limits.{max-kinds, max-prods, max-settings, max-nodes, max-levels}
 use Rattle.chains.specs.Grammar.{Heads}
 use Rattle.book.specs.Format.{grammar, prods, start, kind-at, arity-at, entry}
 use Rattle.sheet.specs.Reading.{Node, Read, settings-of}
@@ -13,19 +13,24 @@ use Rattle.sheet.specs.declared.reader.Found.the-variants.{Entry, Unfit}
 use Rattle.sheet.specs.declared.reader.Walk.{Walk}
 use Rattle.sheet.specs.declared.reader.Walk.the-variants as walk
 
--- what reading needs of an accepted book, of a sheet of lawful length, and of a position in it
-pub record Legible (b l : List ℕ) (i : ℕ) : Type 0 where
+-- what reading needs of an accepted book
+pub record Legible (b : List ℕ) : Type 0 where
   pub trailed : 12 ≤ length b
   pub few-prods : prods b ≤ max-prods
+  pub start-low : start b < max-kinds
   pub in-front : (k : ℕ) → kind-at b k ≡ 2 * k
   pub whole : (p : ℕ) → p < prods b → entry b p + 2 + arity-at b (entry b p) ≤ length b
   pub few-settings : (p : ℕ) → p < prods b → grammar b .settings (grammar b .left p) ≤ max-settings
+
+-- a position in a sheet of lawful length, or its end
+pub record Position (b l : List ℕ) (i : ℕ) : Type 0 where
+  pub legible : Legible b
   pub few-nodes : length l ≤ max-nodes
   pub within : i ≤ length l
 
--- and s is the number of settings of the nodes before i
+-- and s is the number of settings of the nodes before it
 pub record Standing (b l : List ℕ) (i s : ℕ) : Type 0 where
-  pub legible : Legible b l i
+  pub position : Position b l i
   pub sum : s ≡ settings-of (grammar b) (take i l)
   pub low : s ≤ max-settings * i
 
@@ -40,10 +45,18 @@ pub record Fit (b l : List ℕ) (i k levels at : ℕ) : Type 0 where
   pub levels-left : 0 < levels
   pub place : at ≡ entry b (getD l i 0)
 
-abbrev pub Finding : (b l : List ℕ) (i k levels : ℕ) → Found → Type 0
-Finding b l i k levels (Entry at) = Fit b l i k levels at
-Finding b l i k levels (Unfit n p) = Awaited b l i k levels (λ ds. Stop (grammar b) l n p)
+abbrev pub At : (b l : List ℕ) (i k levels : ℕ) → Found → Type 0
+At b l i k levels (Entry at) = Fit b l i k levels at
+At b l i k levels (Unfit n p) = Awaited b l i k levels (λ ds. Stop (grammar b) l n p)
 
-abbrev pub Walked : (b l : List ℕ) (i k levels : ℕ) → Walk → Type 0
-Walked b l i k levels (walk.Next at s) = Standing b l at s × Awaited b l i k levels (Read (grammar b) l at)
-Walked b l i k levels (walk.Stop n p) = Awaited b l i k levels (λ ds. Stop (grammar b) l n p)
+-- one look at a position
+pub record Looked (b l : List ℕ) (i k levels : ℕ) (r : Found) : Type 0 where
+  pub case : At b l i k levels r
+
+abbrev pub Past : (b l : List ℕ) (i k levels : ℕ) → Walk → Type 0
+Past b l i k levels (walk.Next at s) = Standing b l at s × Awaited b l i k levels (Read (grammar b) l at)
+Past b l i k levels (walk.Stop n p) = Awaited b l i k levels (λ ds. Stop (grammar b) l n p)
+
+-- the reading of a whole subtree
+pub record Walked (b l : List ℕ) (i k levels : ℕ) (r : Walk) : Type 0 where
+  pub case : Past b l i k levels r

@@ -3,7 +3,7 @@
 ghost use mathlib.Core.Path.{_≡_};
 ghost use Prim.Native.Nat.{_<_};
 ghost use Rattle.book.specs.Reading.{Index};
-ghost use Rattle.sheet.specs.Walk.{Legible, Standing, Finding, Walked};
+ghost use Rattle.sheet.specs.Walk.{Position, Standing, Looked, Walked};
 use super::limits;
 
 // What stands where a node is due: the place of its production's entry, or the refusal.
@@ -48,8 +48,8 @@ fn unfit(number: u8, at: usize) -> Found
 
 // At one position 21 is sought first, then 22, then 23: so a byte at level 65 is still looked at.
 fn node_at(book: &[u8], places: &[usize; book::limits::MAX_PRODUCTIONS as usize], sheet: &[u8], at: usize, kind: u8, levels: u8) -> Found
-    requires { ⌜ Legible (now book) (now sheet) at × Index (now book) (now places) ⌝ }
-    ensures { λ r. ⌜ Finding (now (book .entry)) (now (sheet .entry)) at kind levels r ⌝ }
+    requires { ⌜ Position (now book) (now sheet) at × Index (now book) (now places) ⌝ }
+    ensures { λ r. ⌜ Looked (now (book .entry)) (now (sheet .entry)) at kind levels r ⌝ }
 {
     if sheet.len() <= at {
         return unfit(22, at);

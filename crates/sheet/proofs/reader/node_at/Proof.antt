@@ -50,7 +50,7 @@ mul-entry c = search needs
 
 -- src/reader.rt:61:17
 element-copy-out-entry : tie.Need-element-copy-out-entry
-element-copy-out-entry c = omega (arith, told-prods (c .before .before .before .before .before .before .before .before .pre .0), c .before .before .before .before .before .before .before .before .pre .0 .few-prods)
+element-copy-out-entry c = omega (arith, told-prods (c .before .before .before .before .before .before .before .before .pre .0 .legible), c .before .before .before .before .before .before .before .before .pre .0 .legible .few-prods)
 
 -- src/reader.rt:62:8
 left-requires : tie.Need-left-requires
