@@ -1,3 +1,5 @@
+pub mod Answers
+pub mod Legible
 pub mod Reading
 pub mod Refusals
 pub mod Stops

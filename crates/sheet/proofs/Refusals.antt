@@ -19,11 +19,8 @@ use Rattle.book.specs.Refusals as book
 use Rattle.sheet.specs.Reading.{Node, Read, settings-of}
 use Rattle.sheet.specs.Refusals.{Applies, of-book, bad-length, no-production, other-kind, ends-early, bytes-left, too-deep, turn, SheetDue}
 use Rattle.sheet.specs.Stops.{Unknown, Unfit, Deep, Fault, unknown, unfit, deep, Stop}
+use Rattle.sheet.specs.Walk.{Sound}
 use Rattle.sheet.proofs.Reading.{Passed, read-once, passed, read-within}
-
--- no row of the book's table applies
-abbrev pub Sound : List ℕ → Type 0
-Sound b = (f : ℕ × ℕ) → book.Applies b (f .0) (f .1) → ⊥
 
 -- a row of the sheet's table is the book's, the one of the length, or a fault met in reading
 pub data Row (b l : List ℕ) (n p : ℕ) : Type 0 where

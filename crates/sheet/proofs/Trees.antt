@@ -16,7 +16,8 @@ use Rattle.chains.proofs.Read.{one-forest}
 use Rattle.book.specs.Format.{grammar}
 use Rattle.sheet.specs.Reading.{Node, due, Read, begun, further, settings-of}
 use Rattle.sheet.specs.Refusals.{Applies, of-book, bad-length, no-production, other-kind, ends-early, bytes-left, too-deep, SheetDue}
-use Rattle.sheet.proofs.Refusals.{Sound, read-accepted}
+use Rattle.sheet.specs.Walk.{Sound}
+use Rattle.sheet.proofs.Refusals.{read-accepted}
 
 -- the forest meets what is due
 abbrev Meets : Grammar → Bush → List Node → Type 0

@@ -10,7 +10,7 @@ use lib.Seq.{length-take-le, getD-take, getD-drop, drop-cons, drop-length}
 use borrow.Author.Tests.{lt-ltb, le-ltb}
 use Rattle.lists.specs.Pick.{pick}
 use Rattle.chains.specs.Limits.{max-prods, max-settings, max-levels}
-use Rattle.book.specs.Format.{grammar, prods, kind-at, left-at, arity-at, kids-at, entry}
+use Rattle.book.specs.Format.{grammar, prods, start, kind-at, left-at, arity-at, kids-at, entry}
 use Rattle.book.specs.Reading.{told, settings-of, kid-at, Index}
 use Rattle.sheet.specs.Reading.{Node, due, Read, further}
 use Rattle.sheet.specs.Stops.{Stop}
@@ -24,6 +24,9 @@ use Rattle.sheet.proofs.Stops.{stop-unknown, stop-end, stop-kind, stop-
 
 pub told-prods : {b : List ℕ} → Legible b → told b 2 ≡ prods b
 told-prods {b} h = rw (le-ltb (length b) 12 (h .trailed))
+
+pub told-start : {b : List ℕ} → Legible b → told b 3 ≡ start b
+told-start {b} h = rw (le-ltb (length b) 12 (h .trailed))
 
 -- the entry's place, by the index
 pub indexed : {b l places : List ℕ} {i p : ℕ} → Position b l i → Index b places → p ≡ getD l i 0 → p < told b 2 → getD places p 0 ≡ entry b (getD l i 0)

@@ -5,6 +5,7 @@ use Prim.Native.Nat.{ℕ, suc, _+_, _*_, _≤_, _<_}
 use lib.ListN.{length, getD, take}
 use Rattle.chains.specs.Limits.{max-kinds, max-prods, max-settings, max-nodes, max-levels}
 use Rattle.chains.specs.Grammar.{Heads}
+use Rattle.book.specs.Refusals as book
 use Rattle.book.specs.Format.{grammar, prods, start, kind-at, arity-at, entry}
 use Rattle.sheet.specs.Reading.{Node, Read, settings-of}
 use Rattle.sheet.specs.Stops.{Stop}
@@ -13,7 +14,11 @@ use Rattle.sheet.specs.declared.reader.Found.the-variants.{Entry, Unfit}
 use Rattle.sheet.specs.declared.reader.Walk.{Walk}
 use Rattle.sheet.specs.declared.reader.Walk.the-variants as walk
 
--- what reading needs of an accepted book
+-- no row of the book's table applies
+abbrev pub Sound : List ℕ → Type 0
+Sound b = (f : ℕ × ℕ) → book.Applies b (f .0) (f .1) → ⊥
+
+-- what reading needs of such a book
 pub record Legible (b : List ℕ) : Type 0 where
   pub trailed : 12 ≤ length b
   pub few-prods : prods b ≤ max-prods
@@ -60,3 +65,10 @@ Past b l i k levels (walk.Stop n p) = Awaited b l i k levels (λ ds. Stop (gramm
 -- the reading of a whole subtree
 pub record Walked (b l : List ℕ) (i k levels : ℕ) (r : Walk) : Type 0 where
   pub case : Past b l i k levels r
+
+-- the whole tree is read: nothing more is due at i
+pub record Finished (b l : List ℕ) (i s : ℕ) : Type 0 where
+  pub sound : Sound b
+  pub some : 0 < length l
+  pub standing : Standing b l i s
+  pub nothing-due : Read (grammar b) l i []

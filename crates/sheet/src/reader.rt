@@ -4,7 +4,7 @@ ghost use mathlib.Core.Path.{_≡_};
 ghost use Prim.Native.Nat.{_<_};
 ghost use Rattle.book.specs.Reading.{Index};
 ghost use Rattle.sheet.specs.Walk.{Position, Standing, Looked, Walked};
-use super::limits;
+use super::{span, wide, word};
 
 // What stands where a node is due: the place of its production's entry, or the refusal.
 pub enum Found {
@@ -16,24 +16,6 @@ pub enum Found {
 pub enum Walk {
     Next { at: usize, settings: u16 },
     Stop { number: u8, place: u16 },
-}
-
-fn wide(x: u8) -> usize
-    ensures { λ r. ⌜ (r ≡ x) × (r < 256) ⌝ }
-{
-    x as usize
-}
-
-fn word(x: u8) -> u16
-    ensures { λ r. ⌜ (r ≡ x) × (r < 256) ⌝ }
-{
-    x as u16
-}
-
-fn span(x: u16) -> usize
-    ensures { λ r. ⌜ r ≡ x ⌝ }
-{
-    x as usize
 }
 
 fn unfit(number: u8, at: usize) -> Found

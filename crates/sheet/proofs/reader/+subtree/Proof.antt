@@ -13,7 +13,7 @@ use Rattle.book.proofs.arity.Reads as arity-reads
 use Rattle.book.proofs.kid.Reads as kid-reads
 use Rattle.book.proofs.settings.Reads as settings-reads
 use Rattle.sheet.proofs.reader.node_at.Reads as node-at-reads
-use Rattle.sheet.proofs.reader.word.Reads as word-reads
+use Rattle.sheet.proofs.word.Reads as word-reads
 use Rattle.sheet.proofs.reader.+subtree.{statement}
 use Rattle.sheet.proofs.reader.+subtree.Tie.{close}
 

@@ -8,9 +8,9 @@ use Rattle.sheet.proofs.reader.node_at.Reads as reads
 use Rattle.sheet.proofs.reader.node_at.Lts as lts
 use Rattle.book.proofs.left.Reads as left-reads
 use Rattle.book.proofs.productions.Reads as productions-reads
-use Rattle.sheet.proofs.reader.span.Reads as span-reads
+use Rattle.sheet.proofs.span.Reads as span-reads
 use Rattle.sheet.proofs.reader.unfit.Reads as unfit-reads
-use Rattle.sheet.proofs.reader.wide.Reads as wide-reads
+use Rattle.sheet.proofs.wide.Reads as wide-reads
 
 -- src/reader.rt:55:9
 unfit-requires : tie.Need-unfit-requires
