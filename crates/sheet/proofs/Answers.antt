@@ -1,0 +1,70 @@
+-- From the reader's outcome to the answer that is due.
+use mathlib.Core.Path.{_≡_, refl, sym, ap, ap₂, subst, _∙_}
+use mathlib.Core.Logic.{_⊎_, inl, inr}
+use mathlib.Core.List.{List, [], _∷_}
+use Prim.Native.Nat.{ℕ, suc, _+_, _≤_, _<_}
+use native.Mathlib.Omega.{arith}
+use lib.ListN.{length, getD, take}
+use lib.Seq.{take-length}
+use Rattle.lists.specs.Refusals.{accepted, refused}
+use Rattle.chains.specs.Limits.{max-nodes, max-levels}
+use Rattle.book.specs.Format.{grammar, start}
+use Rattle.book.specs.Reading.{told}
+use Rattle.sheet.specs.Answer.{said}
+use Rattle.sheet.specs.Reading.{Node, Read, begun, settings-of}
+use Rattle.sheet.specs.Refusals.{SheetDue}
+use Rattle.sheet.specs.Stops.{Stop}
+use Rattle.sheet.specs.Walk.{Sound, Standing, Past, Walked, Finished}
+use Rattle.sheet.specs.declared.SheetChecked.{SheetChecked}
+use Rattle.sheet.specs.declared.SheetChecked.the-variants.{Accepted, Refused}
+use Rattle.sheet.specs.declared.reader.Walk.{Walk}
+use Rattle.sheet.specs.declared.reader.Walk.the-variants as walk
+use Rattle.sheet.proofs.Legible.{legible}
+use Rattle.sheet.proofs.Refusals.{length-refused, stop-refused, read-accepted}
+use Rattle.sheet.proofs.Stops.{stop-unknown, stop-left}
+use Rattle.sheet.proofs.Walk.{told-prods}
+
+-- an answer that is a refusal
+answered : (b l : List ℕ) {r : SheetChecked} {n p : ℕ} → r ≡ Refused n p → SheetDue b l (refused n p) → SheetDue b l (said r)
+answered b l e d = subst (λ (r : SheetChecked). SheetDue b l (said r)) (sym e) d
+
+pub refused-length : (b l : List ℕ) {r : SheetChecked} → Sound b → r ≡ Refused 20 0 → (length l ≡ 0) ⊎ (max-nodes < length l) → SheetDue b l (said r)
+refused-length b l sound e h = answered b l e (length-refused sound h)
+
+-- ── at the end of the tree ──
+module _ {b l : List ℕ} {i s : ℕ} (h : Finished b l i s) where
+  stopped : {r : SheetChecked} {n : ℕ} → r ≡ Refused n i → Stop (grammar b) l n i → SheetDue b l (said r)
+  stopped e t = answered b l e (stop-refused (h .sound) (h .some) (h .standing .position .few-nodes) t)
+
+  pub ended-unknown : {r : SheetChecked} → r ≡ Refused 21 i → i < length l → told b 2 ≤ getD l i 0 → SheetDue b l (said r)
+  ended-unknown e t m = stopped e (stop-unknown (h .nothing-due) (t, omega (arith, told-prods (h .standing .position .legible))))
+
+  pub ended-left : {r : SheetChecked} → r ≡ Refused 22 i → i < length l → getD l i 0 < told b 2 → SheetDue b l (said r)
+  ended-left e t m = stopped e (stop-left (h .nothing-due) t (omega (arith, told-prods (h .standing .position .legible))))
+
+  pub ended-accepted : length l ≤ i → SheetDue b l (said (Accepted i s))
+  ended-accepted m =
+      let e : i ≡ length l = omega (arith, h .standing .position .within) in
+      let r : Read (grammar b) l (length l) [] = subst (λ n. Read (grammar b) l n []) e (h .nothing-due) in
+      let sum : s ≡ settings-of (grammar b) l = h .standing .sum ∙ ap (λ n. settings-of (grammar b) (take n l)) e ∙ ap (settings-of (grammar b)) (take-length l) in
+      (ap₂ (λ n t. n ∷ t ∷ []) e sum, read-accepted (h .sound) (h .some) (h .standing .position .few-nodes) r .1)
+
+-- ── the tree from its root ──
+pub first-standing : (b l : List ℕ) → Sound b → length l ≤ max-nodes → Standing b l 0 0
+unfolding settings-of
+first-standing b l sound few = record { position = record { legible = legible b sound; few-nodes = few; within = omega arith }; sum = refl; low = omega arith }
+
+module _ {b l : List ℕ} {k : ℕ} {r : Walk} (sound : Sound b) (some : 0 < length l) (few : length l ≤ max-nodes)
+    (root : k ≡ start b) (w : Walked b l 0 k max-levels r) where
+  begins : Read (grammar b) l 0 ((k, 1) ∷ [])
+  begins = begun (ap (λ (j : ℕ). (j, 1) ∷ []) root)
+
+  pub walk-finished : {i s : ℕ} → r ≡ walk.Next i s → Finished b l i s
+  walk-finished {i} {s} e =
+      let u : Past b l 0 k max-levels (walk.Next i s) = subst (Past b l 0 k max-levels) e (w .case) in
+      record { sound = sound; some = some; standing = u .0; nothing-due = u .1 1 [] (omega arith) begins }
+
+  pub walk-refused : {n p : ℕ} → r ≡ walk.Stop n p → SheetDue b l (refused n p)
+  walk-refused {n} {p} e =
+      let u : Past b l 0 k max-levels (walk.Stop n p) = subst (Past b l 0 k max-levels) e (w .case) in
+      stop-refused sound some few (u 1 [] (omega arith) begins)

@@ -1,0 +1,8 @@
+pub mod Answers
+pub mod Legible
+pub mod Once
+pub mod Reading
+pub mod Refusals
+pub mod Stops
+pub mod Trees
+pub mod Walk
