@@ -7,3 +7,4 @@ pub mod Plausible
 pub mod Feasible
 pub mod Numbering
 pub mod Choice
+pub mod Replace
