@@ -1,6 +1,6 @@
 -- What a code relates, against what it says: the same, also of settings that there are not, which are alike to themselves only.
 use mathlib.Core.Path.{_≡_, refl, ap, Σ-path}
-use mathlib.Core.Logic.{_⊎_, inl, inr, _↔_}
+use mathlib.Core.Logic.{_⊎_, inl, inr, _↔_, Iff·symm}
 use mathlib.Core.List.{List, [], _∷_}
 use Prim.Native.Nat.{ℕ, zero, suc, _<_}
 use native.Mathlib.Omega.{arith}
@@ -20,6 +20,9 @@ says-iff A c R S h s = record
   { low = s .low
   ; first = s .first
   ; same = λ a b la lb. (λ e. h a b .0 (s .same a b la lb .0 e), λ r. s .same a b la lb .1 (h a b .1 r)) }
+
+pub says-same : (A A′ c : ℕ) (R S : ℕ → ℕ → Type 0) → A ≡ A′ → ((a b : ℕ) → R a b ↔ S a b) → Says A c R ↔ Says A′ c S
+says-same A A′ c R S e h = rw e (says-iff A′ c R S h, says-iff A′ c S R (λ a b. Iff·symm (h a b)))
 
 pub alike-iff : (G : Grammar) (k c : ℕ) (R : ℕ → ℕ → Type 0) → Says (G .settings k) c R → ((a : ℕ) → R a a) → Kept (G .settings k) R
     → (a b : ℕ) → Alike G k c a b ↔ R a b

@@ -17,3 +17,4 @@ pub mod Alike
 pub mod Entries
 pub mod Moved
 pub mod Holes
+pub mod Replace

@@ -1,9 +1,11 @@
 -- A tree with one of its subtrees replaced by another.
 use mathlib.Core.Path.{_≡_}
-use mathlib.Core.Logic.{_⊎_}
+use mathlib.Core.Logic.{_⊎_, _↔_}
 use mathlib.Core.List.{List, [], _∷_, _++_}
 use Prim.Native.Nat.{ℕ, suc, _+_, _≤_, _<_}
-use Rattle.chains.specs.Tree.{Bush, grow, size, flat, Inst}
+use Rattle.chains.specs.Grammar.{Grammar}
+use Rattle.chains.specs.Tree.{Bush, nil, grow, size, flat, Inst}
+use Rattle.chains.specs.Chain.{Chain}
 
 -- a forest with a hole where a tree stood: the first tree, or one below its root, or one of those after it
 pub data Hole : Type 0 where
@@ -41,3 +43,8 @@ Moves i d d′ m m′ = ((m ≤ i) × (m′ ≡ m)) ⊎ ((i + d < m) × (m′ + 
 -- the setting x, of a node not below i, is x′ then
 abbrev pub Shifts : ℕ → ℕ → ℕ → Inst → Inst → Type 0
 Shifts i d d′ x x′ = Moves i d d′ (x .0) (x′ .0) × (x′ .1 ≡ x .1)
+
+-- the own chains of two trees agree among the settings of the root
+abbrev pub Interchange : Grammar → ℕ → ℕ → Bush → Bush → Type 0
+Interchange G q q′ ds ds′ = (a b : ℕ) → a < G .settings (G .left q) → b < G .settings (G .left q)
+    → Chain G (grow q ds nil) 0 (0, a) (0, b) ↔ Chain G (grow q′ ds′ nil) 0 (0, a) (0, b)
