@@ -18,3 +18,4 @@ pub mod Entries
 pub mod Moved
 pub mod Holes
 pub mod Replace
+pub mod Sheets
