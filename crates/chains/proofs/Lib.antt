@@ -19,3 +19,4 @@ pub mod Moved
 pub mod Holes
 pub mod Replace
 pub mod Sheets
+pub mod OneNumbering

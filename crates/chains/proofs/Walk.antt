@@ -34,7 +34,7 @@ module _ (G : Grammar) (p n : ℕ) (cs : Bush) (kinded : Kinded G cs (G .kids p)
       let r : Root cs (suc n) j (setting n cs o .0) = subst (λ t. Slot n cs t (setting n cs o .0)) e s in
       (j, rw ex r, rw ex u)
 
-  root-given : (j : ℕ) (x : Inst) → Root cs (suc n) j (x .0) → Fitted G cs (suc n) x → Given (setting n cs) (occurrences G 1 (G .kids p)) x
+  pub root-given : (j : ℕ) (x : Inst) → Root cs (suc n) j (x .0) → Fitted G cs (suc n) x → Given (setting n cs) (occurrences G 1 (G .kids p)) x
   root-given j x r h =
       let u = fitted-child G (suc n) cs (G .kids p) kinded j x r h in
       let l = root-kids G cs (G .kids p) (suc n) j (x .0) kinded r in
