@@ -16,10 +16,11 @@ Kept A R = (a b : ℕ) → R a b → (a ≡ b) ⊎ ((a < A) × (b < A))
 
 -- a code that says a relation says any other that holds at the same places
 pub says-iff : (A c : ℕ) (R S : ℕ → ℕ → Type 0) → ((a b : ℕ) → R a b ↔ S a b) → Says A c R → Says A c S
-says-iff A c R S h s = record
-  { low = s .low
-  ; first = s .first
-  ; same = λ a b la lb. (λ e. h a b .0 (s .same a b la lb .0 e), λ r. s .same a b la lb .1 (h a b .1 r)) }
+says-iff A c R S h s = record {
+  low = s .low;
+  first = s .first;
+  same = λ a b la lb. (λ e. h a b .0 (s .same a b la lb .0 e), λ r. s .same a b la lb .1 (h a b .1 r));
+}
 
 pub says-same : (A A′ c : ℕ) (R S : ℕ → ℕ → Type 0) → A ≡ A′ → ((a b : ℕ) → R a b ↔ S a b) → Says A c R ↔ Says A′ c S
 says-same A A′ c R S e h = rw e (says-iff A′ c R S h, says-iff A′ c S R (λ a b. Iff·symm (h a b)))

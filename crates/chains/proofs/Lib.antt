@@ -20,3 +20,4 @@ pub mod Holes
 pub mod Replace
 pub mod Sheets
 pub mod OneNumbering
+pub mod Sharing

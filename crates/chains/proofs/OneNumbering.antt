@@ -63,7 +63,7 @@ module _ (G : Grammar) (L : Lawful G) (k : ℕ) (F : Bush) (kinded : Kinded G F 
         → ((j : ℕ) (x : Inst) → Root cs (suc n) j (x .0) → Fitted G cs (suc n) x → num x ≡ num′ x) × (next (suc n) ≡ next′ (suc n))
     kids-same e own =
         let (al, ek) = run-same (Exists G p) (like n) (λ o. num (setting n cs o)) (λ o. num′ (setting n cs o)) one (occurrences G 1 (G .kids p)) (occurrences G 0 (G .left p ∷ []))
-            (next n) (next (suc n)) (next′ (suc n)) tops (λ o m. child-exists G p o m .4) (numbered .below n p cs here) (rw e (numbered′ .below n p cs here)) in
+        (next n) (next (suc n)) (next′ (suc n)) tops (λ o m. child-exists G p o m .4) (numbered .below n p cs here) (rw e (numbered′ .below n p cs here)) in
         (λ j x r h. let (o, m, ex) = root-given G p n cs below j x r h in rw ex (al o m .1), ek)
       where
         tops : (o : Occ) → List·Memᴰ o (occurrences G 0 (G .left p ∷ [])) → Exists G p o × (num (setting n cs o) ≡ num′ (setting n cs o))
@@ -88,7 +88,7 @@ module _ (G : Grammar) (L : Lawful G) (k : ℕ) (F : Bush) (kinded : Kinded G F 
       let (kid, e₂) = walk-same cs (suc n) (λ i q ds s. within i q ds (inr (inl s))) e₁ kids in
       let m₂ : suc n + size cs ≡ suc (n + size cs) = omega arith in
       let (sib, e₃) = walk-same rest (suc (n + size cs)) (λ i q ds s. within i q ds (inr (inr s))) (subst (λ m. next m ≡ next′ m) m₂ e₂)
-          (λ j x r h. tops (suc j) x r (h .0, h .1, inr (inr (h .2)), h .3)) in
+      (λ j x r h. tops (suc j) x r (h .0, h .1, inr (inr (h .2)), h .3)) in
       let m₃ : suc (n + size cs) + size rest ≡ n + suc (size cs + size rest) = omega arith in
       (gathered p n cs rest own kid sib, subst (λ m. next m ≡ next′ m) m₃ e₃)
 
@@ -97,9 +97,10 @@ module _ (G : Grammar) (L : Lawful G) (k : ℕ) (F : Bush) (kinded : Kinded G F 
   top-same =
       let (q, ds, s, hd) = root-kind G F (k ∷ []) 0 0 0 kinded root in
       let (al, ek) = run-same (Exists G q) (like 0) (λ o. num (setting 0 ds o)) (λ o. num′ (setting 0 ds o)) (one 0 q ds s) (occurrences G 0 (G .left q ∷ [])) []
-          0 (next 0) (next′ 0) (λ o m. absurd (List·Memᴰ·not-nil m)) (λ o m. top-exists G q o m .2) (numbered .top q ds s) (numbered′ .top q ds s) in
-      ( λ j x r h. same q ds s (λ a l. al (0, a) (occurrence-listed G 0 (G .left q ∷ []) (0, a) (0, refl, omega arith, l)) .1) x (one-tree G F k 0 j (x .0) kinded r .1) h
-      , ek )
+      0 (next 0) (next′ 0) (λ o m. absurd (List·Memᴰ·not-nil m)) (λ o m. top-exists G q o m .2) (numbered .top q ds s) (numbered′ .top q ds s) in (
+        λ j x r h. same q ds s (λ a l. al (0, a) (occurrence-listed G 0 (G .left q ∷ []) (0, a) (0, refl, omega arith, l)) .1) x (one-tree G F k 0 j (x .0) kinded r .1) h,
+        ek,
+      )
     where
       root : Root F 0 0 0
       root = go F kinded

@@ -78,7 +78,7 @@ module _ (G : Grammar) (q q′ : ℕ) (ds ds′ : Bush) (fits : Fits G (grow q�
   pub replace : (x y x′ y′ : Inst) → To x x′ → To y y′ → Chain G (plug h q ds) n x y → Chain G (plug h q′ ds′) n x′ y′
   replace x y x′ y′ sx sy c =
       let g = glue (Edge G (plug h q ds) n) (Outer G h n q ds) (Tree G q (spot h n) ds) Outside (Within (spot h n) ds) (Top (spot h n))
-          (plug-split G h n q ds) outer-outside (tree-in G q (spot h n) ds) meet (to-outside x x′ sx) (to-outside y y′ sy) c in
+      (plug-split G h n q ds) outer-outside (tree-in G q (spot h n) ds) meet (to-outside x x′ sx) (to-outside y y′ sy) c in
       let (z, sz, d) = lands x′ sx g in
       rw (shifts-one (spot h n) (size ds) (size ds′) y y′ z sy sz) d
 
@@ -103,9 +103,10 @@ module _ (G : Grammar) (L : Lawful G) (k : ℕ) where
   pub same-up : (q q′ : ℕ) (ds ds′ : Bush) → Kinded G (grow q ds nil) (k ∷ []) → Kinded G (grow q′ ds′ nil) (k ∷ []) → Interchange G q q′ ds ds′
       → (a b : ℕ) → Up G (grow q ds nil) 0 a b ↔ Up G (grow q′ ds′ nil) 0 a b
   same-up q q′ ds ds′ kinded kinded′ agree a b =
-      let e : G .left q′ ≡ G .left q = kinded′ .0 .1 ∙ sym (kinded .0 .1) in
-      ( up-there q q′ ds ds′ kinded kinded′ (λ a b la lb. agree a b la lb .0) a b
-      , up-there q′ q ds′ ds kinded′ kinded (λ a b la lb. agree a b (rw e at la) (rw e at lb) .1) a b )
+      let e : G .left q′ ≡ G .left q = kinded′ .0 .1 ∙ sym (kinded .0 .1) in (
+        up-there q q′ ds ds′ kinded kinded′ (λ a b la lb. agree a b la lb .0) a b,
+        up-there q′ q ds′ ds kinded′ kinded (λ a b la lb. agree a b (rw e at la) (rw e at lb) .1) a b,
+      )
 
 -- ── the theorems: two trees that differ in the subtree at one node only, where the own chains of the two subtrees agree ──
 module _ (G : Grammar) (L : Lawful G) (h : Hole) (ks : List ℕ) (q q′ : ℕ) (ds ds′ : Bush) (kinded : Kinded G (plug h q ds) ks) (kinded′ : Kinded G (plug h q′ ds′) ks)
@@ -122,9 +123,10 @@ module _ (G : Grammar) (L : Lawful G) (h : Hole) (ks : List ℕ) (q q′ : ℕ) 
   replaced-chains x y x′ y′ sx sy =
       let (k, kq, kq′) = plug-kind G h ks q q′ ds ds′ kinded kinded′ in
       let back-x = shifts-back (spot h 0) (size ds) (size ds′) x x′ sx in
-      let back-y = shifts-back (spot h 0) (size ds) (size ds′) y y′ sy in
-      ( replace G q q′ ds ds′ (kinded-fits G L (grow q′ ds′ nil) (k ∷ []) kq′) (λ a b. goes-up a b .0) h 0 x y x′ y′ sx sy
-      , replace G q′ q ds′ ds (kinded-fits G L (grow q ds nil) (k ∷ []) kq) (λ a b. goes-up a b .1) h 0 x′ y′ x y back-x back-y )
+      let back-y = shifts-back (spot h 0) (size ds) (size ds′) y y′ sy in (
+        replace G q q′ ds ds′ (kinded-fits G L (grow q′ ds′ nil) (k ∷ []) kq′) (λ a b. goes-up a b .0) h 0 x y x′ y′ sx sy,
+        replace G q′ q ds′ ds (kinded-fits G L (grow q ds nil) (k ∷ []) kq) (λ a b. goes-up a b .1) h 0 x′ y′ x y back-x back-y,
+      )
 
   -- ── one node outside, or the node itself ──
   module _ (m m′ : ℕ) (moves : Moves (spot h 0) (size ds) (size ds′) m m′) (p p′ : ℕ) (cs cs′ : Bush) (s : Sub (plug h q ds) 0 m p cs) (s′ : Sub (plug h q′ ds′) 0 m′ p′ cs′) where

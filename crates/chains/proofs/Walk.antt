@@ -93,7 +93,7 @@ module _ (G : Grammar) (L : Lawful G) (F : Bush) (ks : List ℕ) (kinded : Kinde
         let iy = root-in cs (suc n) j (y .0) r in
         let (b, t, d, d′) = separate G (Edge G F 0) O p n cs rest A y x (omega arith) (free p n cs rest x (touch x s)) (back c) in
         let l : b .1 < G .settings (G .left p) = elim (chain-fitted G L F ks 0 kinded d)
-            [ inl e ↦ (let e₀ = ap (λ (z : Inst). z .0) e in absurd (omega arith)) | inr h ↦ own-setting b t (h .1) ] in
+        [ inl e ↦ (let e₀ = ap (λ (z : Inst). z .0) e in absurd (omega arith)) | inr h ↦ own-setting b t (h .1) ] in
         ((0, b .1), occurrence-listed G 0 (G .left p ∷ []) (0, b .1) (0, refl, omega arith, l), subst (λ i. Chain G F 0 (i, b .1) y) t (back d))
 
     tells : Tells (Edge G F 0) num (like n) (setting n cs) (occurrences G 0 (G .left p ∷ [])) (occurrences G 1 (G .kids p))
@@ -124,7 +124,7 @@ module _ (G : Grammar) (L : Lawful G) (F : Bush) (ks : List ℕ) (kinded : Kinde
       let below = sub-kinded G F ks 0 n p cs kinded here .1 in
       let own : (a : ℕ) → a < G .settings (G .left p) → S (n, a) = λ a l. rooted 0 (n, a) refl (p, cs, inl (refl, refl, refl), l) in
       let children = walk (Above G O p n cs rest) cs (suc n) (around-children G (Edge G F 0) O p n cs rest A) (λ i q ds s. within i q ds (inr (inl s))) (Then G p n cs S)
-          (touch-kids G p n cs below rest S touch own) (λ j x r h. inr (root-given G p n cs below j x r h)) (node-walked O p n cs rest A here below S touch own faith) in
+      (touch-kids G p n cs below rest S touch own) (λ j x r h. inr (root-given G p n cs below j x r h)) (node-walked O p n cs rest A here below S touch own faith) in
       let e : suc n + size cs ≡ suc (n + size cs) = omega arith in
       forest-walked O p n cs rest A here below S touch own
       (walk (Before G O p n cs rest) rest (suc (n + size cs)) (around-rest G (Edge G F 0) O p n cs rest A) (λ i q ds s. within i q ds (inr (inr s)))
