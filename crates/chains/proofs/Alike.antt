@@ -1,12 +1,12 @@
 -- What a code relates, against what it says: the same, also of settings that there are not, which are alike to themselves only.
-use mathlib.Core.Path.{_≡_, refl, ap, Σ-path}
+use mathlib.Core.Path.{_≡_, ap, Σ-path}
 use mathlib.Core.Logic.{_⊎_, inl, inr, _↔_, Iff·symm}
 use mathlib.Core.List.{List, [], _∷_}
 use Prim.Native.Nat.{ℕ, zero, suc, _<_}
 use native.Mathlib.Omega.{arith}
 use lib.ListN.{length, getD}
 use Rattle.chains.specs.Grammar.{Occ, Grammar, Lawful, Exists}
-use Rattle.chains.specs.Chain.{Slotwise, Join, Closure, Eqv, done}
+use Rattle.chains.specs.Chain.{Slotwise, Join, Closure}
 use Rattle.chains.specs.Grouping.{Says, Alike, Each}
 use Rattle.chains.proofs.Closure.{real-ends}
 
@@ -48,7 +48,8 @@ each-kept G (k ∷ ks) (c ∷ cs) zero a b e = elim (alike-kept G k c a b e) [ i
 each-kept G (k ∷ ks) (c ∷ cs) (suc j) a b e = elim (each-kept G ks cs j a b e) [ inl h ↦ inl h | inr h ↦ inr (omega (arith, h .0), h .1, h .2) ]
 
 -- a closure over codes relates an occurrence to another one only if both exist
-module _ (G : Grammar) (L : Lawful G) (p : ℕ) (there : p < G .prods) (ρ : ℕ → ℕ → Type 0) (kept : Kept (G .settings (G .left p)) ρ) (cs : List ℕ) where
+module _ (G : Grammar) (L : Lawful G) (p : ℕ) (there : p < G .prods) (ρ : ℕ → ℕ → Type 0) (kept : Kept (G .settings (G .left p)) ρ)
+    (cs : List ℕ) where
   slots-kept : (s a b : ℕ) → Slotwise ρ (Each G (G .kids p) cs) s a b → (a ≡ b) ⊎ (Exists G p (s, a) × Exists G p (s, b))
   slots-kept zero a b t = elim (kept a b t) [ inl e ↦ inl e | inr h ↦ inr ((omega arith, h .0), (omega arith, h .1)) ]
   slots-kept (suc j) a b t =
@@ -58,5 +59,6 @@ module _ (G : Grammar) (L : Lawful G) (p : ℕ) (there : p < G .prods) (ρ : ℕ
   join-kept o o′ (inl t) = let (e, e′, u) = L .named p o o′ there t in inr (e, e′)
   join-kept o o′ (inr (e, t)) = elim (slots-kept (o .0) (o .1) (o′ .1) t) [ inl h ↦ inl (Σ-path e h) | inr h ↦ inr (h .0, rw (← e) (h .1)) ]
 
-  pub closure-kept : (s : ℕ) → Kept (G .settings (getD (G .left p ∷ G .kids p) s 0)) (λ a b. Closure G p (Slotwise ρ (Each G (G .kids p) cs)) (s, a) (s, b))
+  pub closure-kept : (s : ℕ)
+      → Kept (G .settings (getD (G .left p ∷ G .kids p) s 0)) (λ a b. Closure G p (Slotwise ρ (Each G (G .kids p) cs)) (s, a) (s, b))
   closure-kept s a b c = elim (real-ends (Exists G p) join-kept c) [ inl e ↦ inl (ap (λ (o : Occ). o .1) e) | inr h ↦ inr (h .0 .1, h .1 .1) ]

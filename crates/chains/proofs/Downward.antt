@@ -1,12 +1,11 @@
 -- From the root down: at every node the whole tree's chains among the settings of its production instance are the closure of the production's
 -- ties, of what is chosen at the node, and of what the children relate from the bottom up.
-use mathlib.Core.Path.{_≡_, refl}
-use mathlib.Core.Logic.{_⊎_, inl, inr, _↔_}
+use mathlib.Core.Path.{refl}
+use mathlib.Core.Logic.{inl, inr, _↔_}
 use Prim.Native.Nat.{ℕ, zero, suc, _+_}
-use native.Mathlib.Omega.{arith}
 use Rattle.chains.specs.Grammar.{Occ, Grammar}
 use Rattle.chains.specs.Tree.{Bush, nil, grow, size, Root, Slot, Inst, At, Sub}
-use Rattle.chains.specs.Chain.{Slotwise, Closure, Eqv, done, fwd, bwd}
+use Rattle.chains.specs.Chain.{Slotwise, Closure, Eqv, done, fwd}
 use Rattle.chains.proofs.Closure.{more}
 use Rattle.chains.proofs.Local.{Seen, local, whole, join-mono}
 use Rattle.chains.proofs.Upward.{Up, Fits, chain-up, up-chain}

@@ -1,20 +1,20 @@
 -- What the tables say of a tree. Where every node has the code that its children's codes give from the bottom up, and then the one that its
 -- parent's gives from the root down, the join at every node is the whole tree's chains there.
-use mathlib.Core.Path.{_≡_, refl, sym, _∙_, ap}
-use mathlib.Core.Logic.{_⊎_, inl, inr, _↔_, Iff·rfl, Iff·symm, Iff·trans}
+use mathlib.Core.Path.{_≡_, refl, _∙_, ap}
+use mathlib.Core.Logic.{inl, inr, _↔_, Iff·rfl, Iff·symm, Iff·trans}
 use mathlib.Core.List.{List, [], _∷_, map}
 use Prim.Native.Nat.{ℕ, zero, suc, _+_, _<_}
 use native.Mathlib.Omega.{arith}
-use lib.ListN.{length, getD}
-use Rattle.chains.specs.Grammar.{Occ, Grammar, Lawful, Heads}
+use lib.ListN.{getD}
+use Rattle.chains.specs.Grammar.{Occ, Grammar, Lawful}
 use Rattle.chains.specs.Tree.{Bush, nil, grow, size, flat, Kinded, Root, Inst, At, Sub, roots}
-use Rattle.chains.specs.Chain.{Edge, Chain, Slotwise, Closure, Eqv, done}
+use Rattle.chains.specs.Chain.{Edge, Chain, Slotwise, Closure, done}
 use Rattle.chains.specs.Grouping.{Says, Alike, Each, Members}
 use Rattle.chains.specs.Plausible.{Plausible}
 use Rattle.chains.specs.Feasible.{Feasible, root, down, Chosen}
 use Rattle.chains.specs.Choice.{kid-codes, ChosenUp, ChosenDown}
 use Rattle.chains.proofs.Local.{closure-iff}
-use Rattle.chains.proofs.Upward.{Up, Fits, Nowhere, chain-iff-up}
+use Rattle.chains.proofs.Upward.{Up, Nowhere, chain-iff-up}
 use Rattle.chains.proofs.WellKinded.{kinded-fits, sub-kinded, sub-fits, root-kind, root-kids, one-tree}
 use Rattle.chains.proofs.Nodes.{sub-in, sub-one, sub-flat, sub-child, parent}
 use Rattle.chains.proofs.Around.{around-all}
@@ -32,7 +32,8 @@ module _ (G : Grammar) (L : Lawful G) (U : ℕ → ℕ) where
       (closure-kept G L q there (λ a b. ⊥) (λ a b e. absurd e) (kid-codes U i ds) 0)
 
   -- the roots' codes relate what goes up
-  pub codes-up : (f : Bush) (ks : List ℕ) (n : ℕ) → Kinded G f ks → ChosenUp G f n U → (j a b : ℕ) → Each G ks (map U (roots f n)) j a b ↔ Up G f j a b
+  pub codes-up : (f : Bush) (ks : List ℕ) (n : ℕ) → Kinded G f ks → ChosenUp G f n U → (j a b : ℕ)
+      → Each G ks (map U (roots f n)) j a b ↔ Up G f j a b
   codes-up nil [] n k rise j a b = Iff·rfl
   codes-up nil (x ∷ ks) n k rise j a b = absurd k
   codes-up (grow p cs rest) [] n k rise j a b = absurd k
@@ -61,7 +62,8 @@ module _ (G : Grammar) (L : Lawful G) (U : ℕ → ℕ) where
         says-iff (G .settings (G .left q)) (U i) (λ a b. Closure G q (Slotwise (λ a b. ⊥) (Each G (G .kids q) (kid-codes U i ds))) (0, a) (0, b))
         (λ a b. Chain G (grow q ds nil) 0 (0, a) (0, b)) there (rise i q ds s)
       where
-        there : (a b : ℕ) → Closure G q (Slotwise (λ a b. ⊥) (Each G (G .kids q) (kid-codes U i ds))) (0, a) (0, b) ↔ Chain G (grow q ds nil) 0 (0, a) (0, b)
+        there : (a b : ℕ)
+            → Closure G q (Slotwise (λ a b. ⊥) (Each G (G .kids q) (kid-codes U i ds))) (0, a) (0, b) ↔ Chain G (grow q ds nil) 0 (0, a) (0, b)
         there a b =
             let fits = sub-fits G f 0 i q ds (kinded-fits G L f (k ∷ []) kinded) s in
             Iff·trans (closure-iff G q (λ a b. ⊥) (λ a b. ⊥) (Each G (G .kids q) (kid-codes U i ds)) (Up G ds) (λ a b. Iff·rfl) (kids-up i q ds s) (0, a) (0, b))
@@ -82,7 +84,8 @@ module _ (G : Grammar) (L : Lawful G) (U : ℕ → ℕ) where
       kind-at i q ds s = ap (λ q. G .left q) (sub-flat f i q ds 0 s)
 
       -- the join at a node over its codes is the one over what goes up
-      join-through : (i q : ℕ) (ds : Bush) → Sub f 0 i q ds → (o o′ : Occ) → Closure G q (Chosen G q (F i) (kid-codes U i ds)) o o′ ↔ Through G q (chosen i) ds o o′
+      join-through : (i q : ℕ) (ds : Bush) → Sub f 0 i q ds → (o o′ : Occ)
+          → Closure G q (Chosen G q (F i) (kid-codes U i ds)) o o′ ↔ Through G q (chosen i) ds o o′
       join-through i q ds s =
           closure-iff G q (Alike G (G .left q) (F i)) (chosen i) (Each G (G .kids q) (kid-codes U i ds)) (Up G ds) (λ a b. rw (kind-at i q ds s) Iff·rfl) (kids-up i q ds s)
 
@@ -95,7 +98,8 @@ module _ (G : Grammar) (L : Lawful G) (U : ℕ → ℕ) where
           (fall .child i q ds s j m r) (λ a. done) (closure-kept G L q there (Alike G (G .left q) (F i)) (alike-kept G (G .left q) (F i)) (kid-codes U i ds) (suc j)) a b in
           rw e (Iff·trans alike (join-through i q ds s (suc j, a) (suc j, b)))
 
-      root-alike : (f : Bush) → Kinded G f (k ∷ []) → ChosenUp G f 0 U → (a b : ℕ) → Chain G f 0 (0, a) (0, b) ↔ Alike G (G .left (getD (flat f) 0 0)) (U 0) a b
+      root-alike : (f : Bush) → Kinded G f (k ∷ []) → ChosenUp G f 0 U → (a b : ℕ)
+          → Chain G f 0 (0, a) (0, b) ↔ Alike G (G .left (getD (flat f) 0 0)) (U 0) a b
       root-alike nil h u a b = absurd h
       root-alike (grow p cs rest) h u a b =
           let (to, from) = codes-up (grow p cs rest) (k ∷ []) 0 h u 0 a b in
@@ -122,7 +126,8 @@ module _ (G : Grammar) (L : Lawful G) (U : ℕ → ℕ) where
               let s₀ : Sub f 0 0 q ds = rw e at s in
               rw (e, fall .root, whole-tree k f kinded q ds s₀) (subtree-says 0 q ds s₀)
 
-          at-child : (m p : ℕ) (cs : Bush) (j : ℕ) → Sub f 0 m p cs → Root cs (suc m) j i → Says (G .settings (G .left q)) (F i) (λ a b. Chain G f 0 (i, a) (i, b))
+          at-child : (m p : ℕ) (cs : Bush) (j : ℕ) → Sub f 0 m p cs → Root cs (suc m) j i
+              → Says (G .settings (G .left q)) (F i) (λ a b. Chain G f 0 (i, a) (i, b))
           at-child m p cs j t r =
               let (q′, es, u, hd) = root-kind G cs (G .kids p) (suc m) j i (sub-kinded G f (k ∷ []) 0 m p cs kinded t .1) r in
               let e : G .left q ≡ getD (G .kids p) j 0 = ap (λ q. G .left q) (sub-one f 0 i q q′ ds es s (sub-child f 0 m p cs i q′ es t u) .0) ∙ hd .1 in
@@ -130,7 +135,8 @@ module _ (G : Grammar) (L : Lawful G) (U : ℕ → ℕ) where
               (λ a b. let (to, from) = entries m p cs t (suc j, a) (suc j, b) (i, a) (i, b) (r, refl) (r, refl) in (from, to)) (fall .child m p cs t j i r))
 
       -- ── every node's second code is feasible for its kind, if the tree is one of the start ──
-      plausible-roots : (g : Bush) (ks : List ℕ) (n : ℕ) → Kinded G g ks → ((i q : ℕ) (ds : Bush) → Sub g n i q ds → Sub f 0 i q ds) → Members (Plausible G) ks (map U (roots g n))
+      plausible-roots : (g : Bush) (ks : List ℕ) (n : ℕ) → Kinded G g ks → ((i q : ℕ) (ds : Bush) → Sub g n i q ds → Sub f 0 i q ds)
+          → Members (Plausible G) ks (map U (roots g n))
       plausible-roots nil [] n h in-f = tt
       plausible-roots nil (x ∷ ks) n h in-f = absurd h
       plausible-roots (grow p cs rest) [] n h in-f = absurd h

@@ -1,17 +1,17 @@
 -- The gluing theorem in the words of chains alone.
-use mathlib.Core.Path.{_≡_, refl, ap}
-use mathlib.Core.Logic.{_⊎_, inl, inr, _↔_}
-use mathlib.Core.List.{List, [], _∷_}
-use Prim.Native.Nat.{ℕ, zero, suc, _+_}
+use mathlib.Core.Path.{refl, ap}
+use mathlib.Core.Logic.{inl, inr, _↔_}
+use mathlib.Core.List.{[], _∷_}
+use Prim.Native.Nat.{ℕ, zero, suc}
 use native.Mathlib.Omega.{arith}
 use Rattle.chains.specs.Grammar.{Grammar, Lawful}
-use Rattle.chains.specs.Tree.{Bush, nil, grow, size, Kinded, Slot, Inst}
-use Rattle.chains.specs.Chain.{Chain, Slotwise, Closure, Eqv, done, fwd, bwd}
+use Rattle.chains.specs.Tree.{Bush, nil, grow, Kinded, Slot, Inst}
+use Rattle.chains.specs.Chain.{Chain, Slotwise, Closure, Eqv, done, fwd}
 use Rattle.chains.proofs.Closure.{more, no-edge}
 use Rattle.chains.proofs.Range.{root-fun}
 use Rattle.chains.proofs.Forest.{Tree, in-first, from-first}
 use Rattle.chains.proofs.Local.{Below, Seen, local, whole, join-bind}
-use Rattle.chains.proofs.Upward.{Nowhere, Fits, own-or-below}
+use Rattle.chains.proofs.Upward.{Nowhere, own-or-below}
 use Rattle.chains.proofs.WellKinded.{kinded-fits}
 
 module _ (G : Grammar) (p n : ℕ) (cs : Bush) where

@@ -9,9 +9,9 @@ use lib.ListN.{length, getD, length-append, List·getD-append}
 use lib.Seq.{getD-append-add}
 use Rattle.chains.specs.Grammar.{Occ, Grammar, Lawful}
 use Rattle.chains.specs.Tree.{Bush, nil, grow, size, count, flat, Kinded, Root, Slot, Inst, At, Sub, roots, Fitted}
-use Rattle.chains.specs.Chain.{Edge, Eqv, Chain}
+use Rattle.chains.specs.Chain.{Edge, Chain}
 use Rattle.chains.proofs.Closure.{real-ends}
-use Rattle.chains.proofs.Range.{In, root-in}
+use Rattle.chains.proofs.Range.{In}
 use Rattle.chains.proofs.WellKinded.{root-kind}
 
 pub flat-length : (f : Bush) → length (flat f) ≡ size f
@@ -114,7 +114,8 @@ slots-at i ds (suc j) m d r = roots-at ds (suc i) j m d r
 
 -- ── the ends of every dependence are settings that their nodes have ──
 module _ (G : Grammar) (L : Lawful G) where
-  pub fitted-more : (f g : Bush) (n n′ : ℕ) → ((i q : ℕ) (ds : Bush) → Sub f n i q ds → Sub g n′ i q ds) → (x : Inst) → Fitted G f n x → Fitted G g n′ x
+  pub fitted-more : (f g : Bush) (n n′ : ℕ) → ((i q : ℕ) (ds : Bush) → Sub f n i q ds → Sub g n′ i q ds) → (x : Inst) → Fitted G f n x
+      → Fitted G g n′ x
   fitted-more f g n n′ h x (q, ds, s, l) = (q, ds, h (x .0) q ds s, l)
 
   pub at-fitted : (p n : ℕ) (cs rest : Bush) → Kinded G cs (G .kids p) → (o : Occ) (x : Inst) → At n cs o x

@@ -2,10 +2,10 @@
 use mathlib.Core.Path.{_≡_, refl, sym, _∙_, ap}
 use mathlib.Core.Logic.{_⊎_, inl, inr, _↔_}
 use mathlib.Core.List.{List, [], _∷_, _++_, List·Memᴰ, List·Memᴰ·head, List·Memᴰ·tail, List·Memᴰ·cases-cons, List·Memᴰ·not-nil}
-use Prim.Native.Nat.{ℕ, zero, suc, _<_, _≤_}
+use Prim.Native.Nat.{ℕ, suc, _<_}
 use native.Mathlib.Omega.{arith}
 use native.Mathlib.Decide.{decLe}
-use Rattle.chains.specs.Chain.{Eqv, done, fwd, bwd}
+use Rattle.chains.specs.Chain.{Eqv, done}
 use Rattle.chains.specs.Numbering.{Numbers}
 use Rattle.chains.proofs.Closure.{trans, back}
 
@@ -74,10 +74,12 @@ module _ {O X : Type 0} (W : X → X → Type 0) (num : X → ℕ) (like : O →
   tells-on earlier os o f q q′ (inl m) m′ = f q q′ (elim (List·Memᴰ·cases-cons m) [ inl e ↦ inr (List·Memᴰ·head e) | inr h ↦ inl h ]) (List·Memᴰ·tail m′)
   tells-on earlier os o f q q′ (inr m) m′ = f q q′ (inr (List·Memᴰ·tail m)) (List·Memᴰ·tail m′)
 
-  inside-on : (S : X → Type 0) (earlier : List O) (o : O) → ((q : O) → List·Memᴰ q earlier → S (t q)) → (q : O) → List·Memᴰ q (o ∷ earlier) → And S (t o) (t q)
+  inside-on : (S : X → Type 0) (earlier : List O) (o : O) → ((q : O) → List·Memᴰ q earlier → S (t q)) → (q : O) → List·Memᴰ q (o ∷ earlier)
+      → And S (t o) (t q)
   inside-on S earlier o f q m = elim (List·Memᴰ·cases-cons m) [ inl e ↦ inr (ap t e) | inr h ↦ inl (f q h) ]
 
-  widen : (S : X → Type 0) (o : O) (os : List O) (k : ℕ) → Faithful W num (λ x. And S (t o) x ⊎ Given t os x) k → Faithful W num (λ x. S x ⊎ Given t (o ∷ os) x) k
+  widen : (S : X → Type 0) (o : O) (os : List O) (k : ℕ) → Faithful W num (λ x. And S (t o) x ⊎ Given t os x) k
+      → Faithful W num (λ x. S x ⊎ Given t (o ∷ os) x) k
   widen S o os k = faithful-iff W num (λ x. And S (t o) x ⊎ Given t os x) (λ x. S x ⊎ Given t (o ∷ os) x) k in-turn at-once
     where
       in-turn : (x : X) → And S (t o) x ⊎ Given t os x → S x ⊎ Given t (o ∷ os) x

@@ -1,13 +1,13 @@
 -- The occurrences of a production, in order, and the settings that they are in a production instance.
-use mathlib.Core.Path.{_≡_, refl, sym, _∙_, ap, Σ-path}
+use mathlib.Core.Path.{_≡_, refl, _∙_, ap, Σ-path}
 use mathlib.Core.Logic.{_⊎_, inl, inr}
-use mathlib.Core.List.{List, [], _∷_, _++_, List·Memᴰ, List·Memᴰ·head, List·Memᴰ·tail, List·Memᴰ·cases-cons, List·Memᴰ·not-nil, List·Memᴰ·append-cases, Memᴰ·append-left, Memᴰ·append-right}
+use mathlib.Core.List.{List, [], _∷_, List·Memᴰ, List·Memᴰ·head, List·Memᴰ·tail, List·Memᴰ·cases-cons, List·Memᴰ·not-nil, List·Memᴰ·append-cases, Memᴰ·append-left, Memᴰ·append-right}
 use Prim.Native.Nat.{ℕ, zero, suc, _+_, _≤_, _<_}
 use native.Mathlib.Omega.{arith}
 use native.Mathlib.Decide.{decLe}
 use lib.ListN.{length, getD}
 use Rattle.chains.specs.Grammar.{Occ, Grammar, Exists}
-use Rattle.chains.specs.Tree.{Bush, nil, grow, size, count, Kinded, Root, Slot, Inst, At, Sub, roots, Fitted}
+use Rattle.chains.specs.Tree.{Bush, count, Kinded, Root, Slot, Inst, At, roots, Fitted}
 use Rattle.chains.specs.Numbering.{in-slot, occurrences, setting}
 use Rattle.chains.proofs.Range.{root-exists}
 use Rattle.chains.proofs.Nodes.{roots-at, slots-at, sub-one}
@@ -40,7 +40,8 @@ module _ (G : Grammar) where
   occurrence-stands s [] o m = absurd (List·Memᴰ·not-nil m)
   occurrence-stands s (k ∷ ks) o m = go (List·Memᴰ·append-cases (in-slot s 0 (G .settings k)) m) (λ h. occurrence-stands (suc s) ks o h)
     where
-      go : List·Memᴰ o (in-slot s 0 (G .settings k)) ⊎ List·Memᴰ o (occurrences G (suc s) ks) → (List·Memᴰ o (occurrences G (suc s) ks) → Stands (suc s) ks o) → Stands s (k ∷ ks) o
+      go : List·Memᴰ o (in-slot s 0 (G .settings k)) ⊎ List·Memᴰ o (occurrences G (suc s) ks)
+          → (List·Memᴰ o (occurrences G (suc s) ks) → Stands (suc s) ks o) → Stands s (k ∷ ks) o
       go (inl h) later = let (e, l, u) = in-slot-mem s 0 (G .settings k) o h in (0, omega arith, omega arith, omega arith)
       go (inr h) later = let (j, e, l, u) = later h in (suc j, omega arith, omega arith, u)
 
@@ -77,12 +78,14 @@ module _ (G : Grammar) where
   at-setting i ds o x h = Σ-path (slots-at i ds (o .0) (x .0) 0 (h .0)) (h .1)
 
   -- the settings of the children's roots are those of the children's occurrences
-  pub child-fitted : (n : ℕ) (ds : Bush) (ks : List ℕ) → Kinded G ds ks → (j : ℕ) (x : Inst) → Root ds n j (x .0) → x .1 < G .settings (getD ks j 0) → Fitted G ds n x
+  pub child-fitted : (n : ℕ) (ds : Bush) (ks : List ℕ) → Kinded G ds ks → (j : ℕ) (x : Inst) → Root ds n j (x .0) → x .1 < G .settings (getD ks j 0)
+      → Fitted G ds n x
   child-fitted n ds ks k j x r h =
       let (q, es, s, hd) = root-kind G ds ks n j (x .0) k r in
       (q, es, s, rw (hd .1) h)
 
-  pub fitted-child : (n : ℕ) (ds : Bush) (ks : List ℕ) → Kinded G ds ks → (j : ℕ) (x : Inst) → Root ds n j (x .0) → Fitted G ds n x → x .1 < G .settings (getD ks j 0)
+  pub fitted-child : (n : ℕ) (ds : Bush) (ks : List ℕ) → Kinded G ds ks → (j : ℕ) (x : Inst) → Root ds n j (x .0) → Fitted G ds n x
+      → x .1 < G .settings (getD ks j 0)
   fitted-child n ds ks k j x r (q, es, s, h) =
       let (q′, es′, s′, hd) = root-kind G ds ks n j (x .0) k r in
       let e : G .left q ≡ getD ks j 0 = ap (λ t. G .left t) (sub-one ds n (x .0) q q′ es es′ s s′ .0) ∙ hd .1 in

@@ -1,14 +1,12 @@
 -- The walk leaves no choice: two numberings that follow it, where the chains tell what is alike, are one.
-use mathlib.Core.Path.{_≡_, refl, sym, _∙_, ap, subst}
-use mathlib.Core.Logic.{_⊎_, inl, inr, _↔_}
+use mathlib.Core.Path.{_≡_, refl, sym, _∙_, subst}
+use mathlib.Core.Logic.{inl, inr}
 use mathlib.Core.List.{List, [], _∷_, List·Memᴰ, List·Memᴰ·head, List·Memᴰ·tail, List·Memᴰ·cases-cons, List·Memᴰ·not-nil}
-use Prim.Native.Nat.{ℕ, zero, suc, _+_, _≤_, _<_}
+use Prim.Native.Nat.{ℕ, suc, _+_, _<_}
 use native.Mathlib.Nat.{add-zero}
 use native.Mathlib.Omega.{arith}
-use lib.ListN.{getD}
 use Rattle.chains.specs.Grammar.{Occ, Grammar, Lawful, Exists}
-use Rattle.chains.specs.Tree.{Bush, nil, grow, size, Kinded, Root, Inst, Sub, roots, Fitted}
-use Rattle.chains.specs.Chain.{Chain}
+use Rattle.chains.specs.Tree.{Bush, nil, grow, size, Kinded, Root, Inst, Sub, Fitted}
 use Rattle.chains.specs.Numbering.{occurrences, setting, Numbers, Numbered, Told}
 use Rattle.chains.proofs.Closure.{trans, back}
 use Rattle.chains.proofs.WellKinded.{sub-kinded, root-kind, one-tree}
@@ -69,7 +67,8 @@ module _ (G : Grammar) (L : Lawful G) (k : ℕ) (F : Bush) (kinded : Kinded G F 
         tops : (o : Occ) → List·Memᴰ o (occurrences G 0 (G .left p ∷ [])) → Exists G p o × (num (setting n cs o) ≡ num′ (setting n cs o))
         tops o m = let (e₀, l, x) = top-exists G p o m in (x, rw e₀ (own (o .1) l))
 
-  gathered : (p n : ℕ) (cs rest : Bush) → ((a : ℕ) → a < G .settings (G .left p) → num (n, a) ≡ num′ (n, a)) → ((x : Inst) → Fitted G cs (suc n) x → num x ≡ num′ x)
+  gathered : (p n : ℕ) (cs rest : Bush) → ((a : ℕ) → a < G .settings (G .left p) → num (n, a) ≡ num′ (n, a))
+      → ((x : Inst) → Fitted G cs (suc n) x → num x ≡ num′ x)
       → ((x : Inst) → Fitted G rest (suc (n + size cs)) x → num x ≡ num′ x) → (x : Inst) → Fitted G (grow p cs rest) n x → num x ≡ num′ x
   gathered p n cs rest own kid sib x (q, ds, inl (e, ep, ec), l) =
       let l′ : x .1 < G .settings (G .left p) = rw ep l in
@@ -109,7 +108,8 @@ module _ (G : Grammar) (L : Lawful G) (k : ℕ) (F : Bush) (kinded : Kinded G F 
           go nil h = absurd h
           go (grow p cs rest) h = refl
 
-      same : (q : ℕ) (ds : Bush) → Sub F 0 0 q ds → ((a : ℕ) → a < G .settings (G .left q) → num (0, a) ≡ num′ (0, a)) → (x : Inst) → x .0 ≡ 0 → Fitted G F 0 x → num x ≡ num′ x
+      same : (q : ℕ) (ds : Bush) → Sub F 0 0 q ds → ((a : ℕ) → a < G .settings (G .left q) → num (0, a) ≡ num′ (0, a)) → (x : Inst) → x .0 ≡ 0
+          → Fitted G F 0 x → num x ≡ num′ x
       same q ds s own x e (p, cs, t, l) =
           let t′ : Sub F 0 0 p cs = rw e at t in
           let l′ : x .1 < G .settings (G .left q) = rw (sub-one F 0 0 q p ds cs s t′ .0) l in

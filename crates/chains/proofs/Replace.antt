@@ -2,7 +2,7 @@
 use mathlib.Core.Path.{_≡_, refl, sym, _∙_, ap, subst₂}
 use mathlib.Core.Logic.{_⊎_, inl, inr, _↔_, Iff·symm, Iff·trans}
 use mathlib.Core.List.{List, [], _∷_}
-use Prim.Native.Nat.{ℕ, suc, _+_, _≤_, _<_}
+use Prim.Native.Nat.{ℕ, _+_, _≤_, _<_}
 use native.Mathlib.Omega.{arith}
 use Rattle.chains.specs.Grammar.{Grammar, Lawful}
 use Rattle.chains.specs.Tree.{Bush, nil, grow, size, Kinded, Inst, Sub, Fitted}
@@ -19,7 +19,8 @@ use Rattle.chains.proofs.Alike.{says-same}
 use Rattle.chains.proofs.Holes.{Outer, plug-split, plug-outer, plug-inner, outer-shift, shifts-back, shifts-one, plug-kind, sub-counterpart}
 
 -- ── chains outside, one way; the other way is the same with the two trees exchanged ──
-module _ (G : Grammar) (q q′ : ℕ) (ds ds′ : Bush) (fits : Fits G (grow q′ ds′ nil)) (same : (a b : ℕ) → Up G (grow q ds nil) 0 a b → Up G (grow q′ ds′ nil) 0 a b)
+module _ (G : Grammar) (q q′ : ℕ) (ds ds′ : Bush) (fits : Fits G (grow q′ ds′ nil))
+    (same : (a b : ℕ) → Up G (grow q ds nil) 0 a b → Up G (grow q′ ds′ nil) 0 a b)
     (h : Hole) (n : ℕ) where
   abbrev Outside : Inst → Type 0
   Outside x = (x .0 ≤ spot h n) ⊎ (spot h n + size ds < x .0)
@@ -109,7 +110,8 @@ module _ (G : Grammar) (L : Lawful G) (k : ℕ) where
       )
 
 -- ── the theorems: two trees that differ in the subtree at one node only, where the own chains of the two subtrees agree ──
-module _ (G : Grammar) (L : Lawful G) (h : Hole) (ks : List ℕ) (q q′ : ℕ) (ds ds′ : Bush) (kinded : Kinded G (plug h q ds) ks) (kinded′ : Kinded G (plug h q′ ds′) ks)
+module _ (G : Grammar) (L : Lawful G) (h : Hole) (ks : List ℕ) (q q′ : ℕ) (ds ds′ : Bush) (kinded : Kinded G (plug h q ds) ks)
+    (kinded′ : Kinded G (plug h q′ ds′) ks)
     (agree : Interchange G q q′ ds ds′) where
   goes-up : (a b : ℕ) → Up G (grow q ds nil) 0 a b ↔ Up G (grow q′ ds′ nil) 0 a b
   goes-up = let (k, kq, kq′) = plug-kind G h ks q q′ ds ds′ kinded kinded′ in same-up G L k q q′ ds ds′ kq kq′ agree
@@ -129,7 +131,8 @@ module _ (G : Grammar) (L : Lawful G) (h : Hole) (ks : List ℕ) (q q′ : ℕ) 
       )
 
   -- ── one node outside, or the node itself ──
-  module _ (m m′ : ℕ) (moves : Moves (spot h 0) (size ds) (size ds′) m m′) (p p′ : ℕ) (cs cs′ : Bush) (s : Sub (plug h q ds) 0 m p cs) (s′ : Sub (plug h q′ ds′) 0 m′ p′ cs′) where
+  module _ (m m′ : ℕ) (moves : Moves (spot h 0) (size ds) (size ds′) m m′) (p p′ : ℕ) (cs cs′ : Bush) (s : Sub (plug h q ds) 0 m p cs)
+      (s′ : Sub (plug h q′ ds′) 0 m′ p′ cs′) where
     -- It has the same kind.
     pub replaced-kind : G .left p ≡ G .left p′
     replaced-kind =

@@ -1,12 +1,11 @@
 -- A chain from inside a tree to outside passes a setting of the tree's root.
-use mathlib.Core.Path.{_≡_}
 use mathlib.Core.Logic.{_⊎_, inl, inr}
 use Prim.Native.Nat.{ℕ, suc}
 use native.Mathlib.Omega.{arith}
 use native.Mathlib.Decide.{decLe}
 use Rattle.chains.specs.Grammar.{Grammar}
 use Rattle.chains.specs.Tree.{Bush, grow, Inst}
-use Rattle.chains.specs.Chain.{Edge, Eqv, done, fwd, bwd}
+use Rattle.chains.specs.Chain.{Edge, Eqv, done, fwd}
 use Rattle.chains.proofs.Closure.{bind, pass, unglue}
 use Rattle.chains.proofs.Range.{Within, Top, Clear}
 use Rattle.chains.proofs.Forest.{Tree, tree-in}

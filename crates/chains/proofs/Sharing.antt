@@ -1,9 +1,9 @@
 -- Which settings share a record: labels read at each node tell what the whole tree's chains join, so the numbers of the walk are shared exactly
 -- there, and a replacement that the node's chains do not show changes no sharing outside.
 use mathlib.Core.Path.{_≡_}
-use mathlib.Core.Logic.{_⊎_, _↔_, Iff·symm, Iff·trans}
-use mathlib.Core.List.{List, [], _∷_}
-use Prim.Native.Nat.{ℕ, _<_}
+use mathlib.Core.Logic.{_↔_, Iff·symm, Iff·trans}
+use mathlib.Core.List.{[], _∷_}
+use Prim.Native.Nat.{ℕ}
 use Rattle.chains.specs.Grammar.{Occ, Grammar, Lawful, Exists}
 use Rattle.chains.specs.Tree.{Bush, size, Kinded, Inst, Sub, Fitted}
 use Rattle.chains.specs.Chain.{Closure}
@@ -28,9 +28,11 @@ module _ (G : Grammar) (L : Lawful G) (k : ℕ) where
       (Iff·symm (entries G L U k f kinded rise F fall i q ds s o o′ (setting i ds o) (setting i ds o′) (setting-at G i q ds below o x) (setting-at G i q ds below o′ x′)))
 
   -- Two settings outside share a number in the one tree exactly where they share one in the other.
-  pub replaced-sharing : (h : Hole) (q q′ : ℕ) (ds ds′ : Bush) → Kinded G (plug h q ds) (k ∷ []) → Kinded G (plug h q′ ds′) (k ∷ []) → Interchange G q q′ ds ds′
+  pub replaced-sharing : (h : Hole) (q q′ : ℕ) (ds ds′ : Bush) → Kinded G (plug h q ds) (k ∷ []) → Kinded G (plug h q′ ds′) (k ∷ [])
+      → Interchange G q q′ ds ds′
       → (like like′ : ℕ → Occ → Occ → Type 0) (num num′ : Inst → ℕ) (next next′ : ℕ → ℕ)
-      → Told G (plug h q ds) like → Numbered G (plug h q ds) like num next → Told G (plug h q′ ds′) like′ → Numbered G (plug h q′ ds′) like′ num′ next′
+      → Told G (plug h q ds) like → Numbered G (plug h q ds) like num next → Told G (plug h q′ ds′) like′
+      → Numbered G (plug h q′ ds′) like′ num′ next′
       → (x y x′ y′ : Inst) → Fitted G (plug h q ds) 0 x → Fitted G (plug h q ds) 0 y
       → Shifts (spot h 0) (size ds) (size ds′) x x′ → Shifts (spot h 0) (size ds) (size ds′) y y′ → (num x ≡ num y) ↔ (num′ x′ ≡ num′ y′)
   replaced-sharing h q q′ ds ds′ kinded kinded′ agree like like′ num num′ next next′ told numbered told′ numbered′ x y x′ y′ hx hy sx sy =

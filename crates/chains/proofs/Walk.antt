@@ -2,19 +2,19 @@
 use mathlib.Core.Path.{_≡_, refl, sym, _∙_, ap, subst, Σ-path}
 use mathlib.Core.Logic.{_⊎_, inl, inr, _↔_}
 use mathlib.Core.List.{List, [], _∷_, List·Memᴰ, List·Memᴰ·not-nil}
-use Prim.Native.Nat.{ℕ, zero, suc, _+_, _≤_, _<_}
+use Prim.Native.Nat.{ℕ, suc, _+_, _<_}
 use native.Mathlib.Nat.{add-zero}
 use native.Mathlib.Omega.{arith}
-use lib.ListN.{length, getD}
-use Rattle.chains.specs.Grammar.{Occ, Grammar, Lawful, Exists}
-use Rattle.chains.specs.Tree.{Bush, nil, grow, size, Kinded, Root, Slot, Inst, At, Sub, roots, Fitted}
-use Rattle.chains.specs.Chain.{Edge, Chain, Eqv, done, fwd, bwd}
-use Rattle.chains.specs.Numbering.{occurrences, setting, Numbers, Numbered, Told}
-use Rattle.chains.proofs.Closure.{trans, back}
-use Rattle.chains.proofs.Range.{In, Top, root-in}
+use lib.ListN.{getD}
+use Rattle.chains.specs.Grammar.{Occ, Grammar, Lawful}
+use Rattle.chains.specs.Tree.{Bush, nil, grow, size, Kinded, Root, Slot, Inst, Sub, roots, Fitted}
+use Rattle.chains.specs.Chain.{Edge, Chain}
+use Rattle.chains.specs.Numbering.{occurrences, setting, Numbered, Told}
+use Rattle.chains.proofs.Closure.{back}
+use Rattle.chains.proofs.Range.{Top, root-in}
 use Rattle.chains.proofs.Upward.{Nowhere}
 use Rattle.chains.proofs.WellKinded.{sub-kinded, root-kids, one-tree}
-use Rattle.chains.proofs.Nodes.{sub-in, sub-all, sub-one, chain-fitted}
+use Rattle.chains.proofs.Nodes.{sub-in, sub-one, chain-fitted}
 use Rattle.chains.proofs.Around.{Around, Touch, Above, Before, free, past, around-all, around-children, around-rest}
 use Rattle.chains.proofs.Separate.{separate}
 use Rattle.chains.proofs.Number.{Faithful, Given, Shows, Tells, faithful-none, faithful-iff, run}
@@ -27,7 +27,8 @@ Then G p n cs S x = S x ⊎ Given (setting n cs) (occurrences G 1 (G .kids p)) x
 
 module _ (G : Grammar) (p n : ℕ) (cs : Bush) (kinded : Kinded G cs (G .kids p)) where
   -- a point given is a setting of a child, and a setting of a child is given
-  given-root : (x : Inst) → Given (setting n cs) (occurrences G 1 (G .kids p)) x → (j : ℕ) × Root cs (suc n) j (x .0) × (x .1 < G .settings (getD (G .kids p) j 0))
+  given-root : (x : Inst) → Given (setting n cs) (occurrences G 1 (G .kids p)) x
+      → (j : ℕ) × Root cs (suc n) j (x .0) × (x .1 < G .settings (getD (G .kids p) j 0))
   given-root x (o, m, ex) =
       let (j, e, l, u, h) = child-exists G p o m in
       let s = setting-at G n p cs kinded o h .0 in
@@ -42,7 +43,8 @@ module _ (G : Grammar) (p n : ℕ) (cs : Bush) (kinded : Kinded G cs (G .kids p)
       ((suc j, x .1), m, sym (at-setting G n cs (suc j, x .1) x (r, refl)))
 
   -- S meets the forest at its roots, and has the first root's settings
-  module _ (rest : Bush) (S : Inst → Type 0) (touch : (x : Inst) → S x → Touch (grow p cs rest) n x) (rooted : (a : ℕ) → a < G .settings (G .left p) → S (n, a)) where
+  module _ (rest : Bush) (S : Inst → Type 0) (touch : (x : Inst) → S x → Touch (grow p cs rest) n x)
+      (rooted : (a : ℕ) → a < G .settings (G .left p) → S (n, a)) where
     top-seen : (o : Occ) → List·Memᴰ o (occurrences G 0 (G .left p ∷ [])) → S (setting n cs o)
     top-seen o m = let (e, l, x) = top-exists G p o m in subst (λ s. S (getD (n ∷ roots cs (suc n)) s 0, o .1)) (sym e) (rooted (o .1) l)
 
@@ -74,10 +76,12 @@ module _ (G : Grammar) (p n : ℕ) (cs : Bush) (kinded : Kinded G cs (G .kids p)
     all-at-once x (inr (q, ds, inr (inr s), u)) = inr (q, ds, s, u)
 
 -- F is the whole tree
-module _ (G : Grammar) (L : Lawful G) (F : Bush) (ks : List ℕ) (kinded : Kinded G F ks) (like : ℕ → Occ → Occ → Type 0) (num : Inst → ℕ) (next : ℕ → ℕ)
+module _ (G : Grammar) (L : Lawful G) (F : Bush) (ks : List ℕ) (kinded : Kinded G F ks) (like : ℕ → Occ → Occ → Type 0) (num : Inst → ℕ)
+    (next : ℕ → ℕ)
     (told : Told G F like) (numbered : Numbered G F like num next) where
   -- ── one node ──
-  module _ (O : Inst → Inst → Type 0) (p n : ℕ) (cs rest : Bush) (A : Around G (Edge G F 0) O (grow p cs rest) n) (here : Sub F 0 n p cs) (below : Kinded G cs (G .kids p))
+  module _ (O : Inst → Inst → Type 0) (p n : ℕ) (cs rest : Bush) (A : Around G (Edge G F 0) O (grow p cs rest) n) (here : Sub F 0 n p cs)
+      (below : Kinded G cs (G .kids p))
       (S : Inst → Type 0) (touch : (x : Inst) → S x → Touch (grow p cs rest) n x) (rooted : (a : ℕ) → a < G .settings (G .left p) → S (n, a)) where
     own-setting : (b : Inst) → Top n b → Fitted G F 0 b → b .1 < G .settings (G .left p)
     own-setting b t (q, ds, s, l) =
@@ -135,7 +139,8 @@ module _ (G : Grammar) (L : Lawful G) (F : Bush) (ks : List ℕ) (kinded : Kinde
 -- ── the whole tree ──
 module _ (G : Grammar) (L : Lawful G) (k : ℕ) (like : ℕ → Occ → Occ → Type 0) (num : Inst → ℕ) (next : ℕ → ℕ) where
   -- the root's settings come first
-  module _ (p : ℕ) (cs : Bush) (kinded : Kinded G (grow p cs nil) (k ∷ [])) (told : Told G (grow p cs nil) like) (numbered : Numbered G (grow p cs nil) like num next) where
+  module _ (p : ℕ) (cs : Bush) (kinded : Kinded G (grow p cs nil) (k ∷ [])) (told : Told G (grow p cs nil) like)
+      (numbered : Numbered G (grow p cs nil) like num next) where
     abbrev W : Inst → Inst → Type 0
     W = Edge G (grow p cs nil) 0
 
@@ -179,7 +184,8 @@ module _ (G : Grammar) (L : Lawful G) (k : ℕ) (like : ℕ → Occ → Occ → 
         (walk G L (grow p cs nil) (k ∷ []) kinded like num next told numbered Nowhere (grow p cs nil) 0 (around-all G (grow p cs nil) 0) (λ i q ds s. s)
         First touch-top rooted-top root-walked)
 
-  from-top : (f : Bush) → Kinded G f (k ∷ []) → Told G f like → Numbered G f like num next → Faithful (Edge G f 0) num (Fitted G f 0) (next (0 + size f))
+  from-top : (f : Bush) → Kinded G f (k ∷ []) → Told G f like → Numbered G f like num next
+      → Faithful (Edge G f 0) num (Fitted G f 0) (next (0 + size f))
   from-top nil kinded told numbered = absurd kinded
   from-top (grow p cs (grow q ds more)) kinded told numbered = absurd (kinded .2)
   from-top (grow p cs nil) kinded told numbered = tree-walked p cs kinded told numbered
