@@ -8,7 +8,7 @@ use native.Mathlib.Omega.{arith}
 use lib.ListN.{getD}
 use Rattle.chains.specs.Grammar.{Occ, Grammar, Lawful}
 use Rattle.chains.specs.Tree.{Bush, nil, grow, size, flat, Kinded, Root, Inst, At, Sub, roots}
-use Rattle.chains.specs.Chain.{Edge, Chain, Slotwise, Closure, done}
+use Rattle.chains.specs.Chain.{Edge, Chain, RootChains, NodeChains, Slotwise, Closure, done}
 use Rattle.chains.specs.Grouping.{Says, Alike, Each, Members}
 use Rattle.chains.specs.Plausible.{Plausible}
 use Rattle.chains.specs.Feasible.{Feasible, root, down, Chosen}
@@ -57,13 +57,13 @@ module _ (G : Grammar) (L : Lawful G) (U : ℕ → ℕ) where
     kids-up i q ds s = codes-up ds (G .kids q) (suc i) (sub-kinded G f (k ∷ []) 0 i q ds kinded s .1) (λ m p cs t. rise m p cs (sub-child f 0 i q ds m p cs s t))
 
     -- The code of a node says the chains of its subtree alone among the node's settings.
-    pub subtree-says : (i q : ℕ) (ds : Bush) → Sub f 0 i q ds → Says (G .settings (G .left q)) (U i) (λ a b. Chain G (grow q ds nil) 0 (0, a) (0, b))
+    pub subtree-says : (i q : ℕ) (ds : Bush) → Sub f 0 i q ds → Says (G .settings (G .left q)) (U i) (RootChains G q ds)
     subtree-says i q ds s =
         says-iff (G .settings (G .left q)) (U i) (λ a b. Closure G q (Slotwise (λ a b. ⊥) (Each G (G .kids q) (kid-codes U i ds))) (0, a) (0, b))
-        (λ a b. Chain G (grow q ds nil) 0 (0, a) (0, b)) there (rise i q ds s)
+        (RootChains G q ds) there (rise i q ds s)
       where
         there : (a b : ℕ)
-            → Closure G q (Slotwise (λ a b. ⊥) (Each G (G .kids q) (kid-codes U i ds))) (0, a) (0, b) ↔ Chain G (grow q ds nil) 0 (0, a) (0, b)
+            → Closure G q (Slotwise (λ a b. ⊥) (Each G (G .kids q) (kid-codes U i ds))) (0, a) (0, b) ↔ RootChains G q ds a b
         there a b =
             let fits = sub-fits G f 0 i q ds (kinded-fits G L f (k ∷ []) kinded) s in
             Iff·trans (closure-iff G q (λ a b. ⊥) (λ a b. ⊥) (Each G (G .kids q) (kid-codes U i ds)) (Up G ds) (λ a b. Iff·rfl) (kids-up i q ds s) (0, a) (0, b))
@@ -117,21 +117,21 @@ module _ (G : Grammar) (L : Lawful G) (U : ℕ → ℕ) where
           Iff·trans (down-nodes G (Edge G f 0) chosen Nowhere f 0 (around-all G f 0) fits handed exactly i q ds s o o′ x y h h′) (from, to)
 
       -- The feasible code of a node says the whole tree's chains among the node's settings.
-      pub whole-says : (i q : ℕ) (ds : Bush) → Sub f 0 i q ds → Says (G .settings (G .left q)) (F i) (λ a b. Chain G f 0 (i, a) (i, b))
+      pub whole-says : (i q : ℕ) (ds : Bush) → Sub f 0 i q ds → Says (G .settings (G .left q)) (F i) (NodeChains G f i)
       whole-says i q ds s = elim (parent f 0 i q ds s) [ inl r ↦ at-root (r .0) (r .1) | inr r ↦ at-child (r .0) (r .1) (r .2) (r .3) (r .4) (r .5) ]
         where
-          at-root : (j : ℕ) → Root f 0 j i → Says (G .settings (G .left q)) (F i) (λ a b. Chain G f 0 (i, a) (i, b))
+          at-root : (j : ℕ) → Root f 0 j i → Says (G .settings (G .left q)) (F i) (NodeChains G f i)
           at-root j r =
               let e = one-tree G f k 0 j i kinded r .1 in
               let s₀ : Sub f 0 0 q ds = rw e at s in
               rw (e, fall .root, whole-tree k f kinded q ds s₀) (subtree-says 0 q ds s₀)
 
           at-child : (m p : ℕ) (cs : Bush) (j : ℕ) → Sub f 0 m p cs → Root cs (suc m) j i
-              → Says (G .settings (G .left q)) (F i) (λ a b. Chain G f 0 (i, a) (i, b))
+              → Says (G .settings (G .left q)) (F i) (NodeChains G f i)
           at-child m p cs j t r =
               let (q′, es, u, hd) = root-kind G cs (G .kids p) (suc m) j i (sub-kinded G f (k ∷ []) 0 m p cs kinded t .1) r in
               let e : G .left q ≡ getD (G .kids p) j 0 = ap (λ q. G .left q) (sub-one f 0 i q q′ ds es s (sub-child f 0 m p cs i q′ es t u) .0) ∙ hd .1 in
-              rw e (says-iff (G .settings (getD (G .kids p) j 0)) (F i) (λ a b. Closure G p (Chosen G p (F m) (kid-codes U m cs)) (suc j, a) (suc j, b)) (λ a b. Chain G f 0 (i, a) (i, b))
+              rw e (says-iff (G .settings (getD (G .kids p) j 0)) (F i) (λ a b. Closure G p (Chosen G p (F m) (kid-codes U m cs)) (suc j, a) (suc j, b)) (NodeChains G f i)
               (λ a b. let (to, from) = entries m p cs t (suc j, a) (suc j, b) (i, a) (i, b) (r, refl) (r, refl) in (from, to)) (fall .child m p cs t j i r))
 
       -- ── every node's second code is feasible for its kind, if the tree is one of the start ──

@@ -25,6 +25,13 @@ use Rattle.chains.proofs.Occurrences.{occurrence-listed, top-exists, ch
 abbrev pub Then : Grammar → ℕ → ℕ → Bush → (Inst → Type 0) → Inst → Type 0
 Then G p n cs S x = S x ⊎ Given (setting n cs) (occurrences G 1 (G .kids p)) x
 
+-- once all nodes below n have numbered their children, and once those of the other trees have
+abbrev pub ThenBelow : Grammar → ℕ → ℕ → Bush → (Inst → Type 0) → Inst → Type 0
+ThenBelow G p n cs S x = Then G p n cs S x ⊎ Fitted G cs (suc n) x
+
+abbrev pub ThenAll : Grammar → ℕ → ℕ → Bush → Bush → (Inst → Type 0) → Inst → Type 0
+ThenAll G p n cs rest S x = ThenBelow G p n cs S x ⊎ Fitted G rest (suc (n + size cs)) x
+
 module _ (G : Grammar) (p n : ℕ) (cs : Bush) (kinded : Kinded G cs (G .kids p)) where
   -- a point given is a setting of a child, and a setting of a child is given
   given-root : (x : Inst) → Given (setting n cs) (occurrences G 1 (G .kids p)) x
@@ -52,13 +59,13 @@ module _ (G : Grammar) (p n : ℕ) (cs : Bush) (kinded : Kinded G cs (G .kids p)
     touch-kids x (inl s) u = absurd (free p n cs rest x (touch x s) u)
     touch-kids x (inr g) u = let (j, r, l) = given-root x g in (j, r)
 
-    touch-rest : (x : Inst) → Then G p n cs S x ⊎ Fitted G cs (suc n) x → Touch rest (suc (n + size cs)) x
+    touch-rest : (x : Inst) → ThenBelow G p n cs S x → Touch rest (suc (n + size cs)) x
     touch-rest x (inl (inl s)) = past p n cs rest x (touch x s)
     touch-rest x (inl (inr g)) = let (j, r, l) = given-root x g in let h = root-in cs (suc n) j (x .0) r in λ u. absurd (omega arith)
     touch-rest x (inr (q, ds, s, l)) = let h = sub-in cs (suc n) (x .0) q ds s in λ u. absurd (omega arith)
 
     -- the node's children, then what is below them, then the other trees: that is the forest
-    all-in-turn : (x : Inst) → (Then G p n cs S x ⊎ Fitted G cs (suc n) x) ⊎ Fitted G rest (suc (n + size cs)) x → S x ⊎ Fitted G (grow p cs rest) n x
+    all-in-turn : (x : Inst) → ThenAll G p n cs rest S x → S x ⊎ Fitted G (grow p cs rest) n x
     all-in-turn x (inl (inl (inl s))) = inl s
     all-in-turn x (inl (inl (inr g))) =
         let (j, r, l) = given-root x g in
@@ -67,7 +74,7 @@ module _ (G : Grammar) (p n : ℕ) (cs : Bush) (kinded : Kinded G cs (G .kids p)
     all-in-turn x (inl (inr (q, ds, s, u))) = inr (q, ds, inr (inl s), u)
     all-in-turn x (inr (q, ds, s, u)) = inr (q, ds, inr (inr s), u)
 
-    all-at-once : (x : Inst) → S x ⊎ Fitted G (grow p cs rest) n x → (Then G p n cs S x ⊎ Fitted G cs (suc n) x) ⊎ Fitted G rest (suc (n + size cs)) x
+    all-at-once : (x : Inst) → S x ⊎ Fitted G (grow p cs rest) n x → ThenAll G p n cs rest S x
     all-at-once x (inl s) = inl (inl (inl s))
     all-at-once x (inr (q, ds, inl (e, ep, ec), u)) =
         let u′ : x .1 < G .settings (G .left p) = rw ep u in
@@ -109,13 +116,13 @@ module _ (G : Grammar) (L : Lawful G) (F : Bush) (ks : List ℕ) (kinded : Kinde
         run (Edge G F 0) num (like n) (setting n cs) (occurrences G 1 (G .kids p)) (occurrences G 0 (G .left p ∷ [])) (next n) (next (suc n)) S faith
         (top-seen G p n cs below rest S touch rooted) shows tells (numbered .below n p cs here)
 
-    forest-walked : Faithful (Edge G F 0) num (λ x. (Then G p n cs S x ⊎ Fitted G cs (suc n) x) ⊎ Fitted G rest (suc (n + size cs)) x) (next (suc (n + size cs) + size rest))
+    forest-walked : Faithful (Edge G F 0) num (ThenAll G p n cs rest S) (next (suc (n + size cs) + size rest))
         → Faithful (Edge G F 0) num (λ x. S x ⊎ Fitted G (grow p cs rest) n x) (next (n + suc (size cs + size rest)))
     forest-walked faith =
         let e : suc (n + size cs) + size rest ≡ n + suc (size cs + size rest) = omega arith in
-        faithful-iff (Edge G F 0) num (λ x. (Then G p n cs S x ⊎ Fitted G cs (suc n) x) ⊎ Fitted G rest (suc (n + size cs)) x) (λ x. S x ⊎ Fitted G (grow p cs rest) n x)
+        faithful-iff (Edge G F 0) num (ThenAll G p n cs rest S) (λ x. S x ⊎ Fitted G (grow p cs rest) n x)
         (next (n + suc (size cs + size rest))) (all-in-turn G p n cs below rest S touch rooted) (all-at-once G p n cs below rest S touch rooted)
-        (subst (λ m. Faithful (Edge G F 0) num (λ x. (Then G p n cs S x ⊎ Fitted G cs (suc n) x) ⊎ Fitted G rest (suc (n + size cs)) x) (next m)) e faith)
+        (subst (λ m. Faithful (Edge G F 0) num (ThenAll G p n cs rest S) (next m)) e faith)
 
   -- ── all nodes of a forest ──
   pub walk : (O : Inst → Inst → Type 0) (f : Bush) (n : ℕ) → Around G (Edge G F 0) O f n → ((i q : ℕ) (ds : Bush) → Sub f n i q ds → Sub F 0 i q ds)
@@ -132,9 +139,9 @@ module _ (G : Grammar) (L : Lawful G) (F : Bush) (ks : List ℕ) (kinded : Kinde
       let e : suc n + size cs ≡ suc (n + size cs) = omega arith in
       forest-walked O p n cs rest A here below S touch own
       (walk (Before G O p n cs rest) rest (suc (n + size cs)) (around-rest G (Edge G F 0) O p n cs rest A) (λ i q ds s. within i q ds (inr (inr s)))
-      (λ x. Then G p n cs S x ⊎ Fitted G cs (suc n) x) (touch-rest G p n cs below rest S touch own)
+      (ThenBelow G p n cs S) (touch-rest G p n cs below rest S touch own)
       (λ j x r h. inl (inl (rooted (suc j) x r (h .0, h .1, inr (inr (h .2)), h .3))))
-      (subst (λ m. Faithful (Edge G F 0) num (λ x. Then G p n cs S x ⊎ Fitted G cs (suc n) x) (next m)) e children))
+      (subst (λ m. Faithful (Edge G F 0) num (ThenBelow G p n cs S) (next m)) e children))
 
 -- ── the whole tree ──
 module _ (G : Grammar) (L : Lawful G) (k : ℕ) (like : ℕ → Occ → Occ → Type 0) (num : Inst → ℕ) (next : ℕ → ℕ) where
