@@ -37,7 +37,8 @@ pub hole-of : (f : Bush) (n i q : ℕ) (ds : Bush) → Sub f n i q ds → (h : H
 hole-of nil n i q ds s = absurd s
 hole-of (grow p cs rest) n i q ds (inl (ei, ep, ec)) = (here rest, cc, sym ei)
 hole-of (grow p cs rest) n i q ds (inr (inl s)) = let (h, e, ei) = hole-of cs (suc n) i q ds s in (inside p h rest, ap (λ c. grow p c rest) e, ei)
-hole-of (grow p cs rest) n i q ds (inr (inr s)) = let (h, e, ei) = hole-of rest (suc (n + size cs)) i q ds s in (after p cs h, ap (λ c. grow p cs c) e, ei)
+hole-of (grow p cs rest) n i q ds (inr (inr s)) =
+    let (h, e, ei) = hole-of rest (suc (n + size cs)) i q ds s in (after p cs h, ap (λ c. grow p cs c) e, ei)
 
 -- ── the hole in preorder ──
 pub plug-flat : (h : Hole) (q : ℕ) (ds : Bush) → flat (plug h q ds) ≡ prefix h ++ (flat (grow q ds nil) ++ suffix h)
@@ -206,9 +207,10 @@ module _ (G : Grammar) where
     plug-up (after p cs h) zero a b = Iff·rfl
     plug-up (after p cs h) (suc j) a b = plug-up h j a b
 
-    -- m′ is a node whose production has p's left kind on its left, and whose subtree relates what the subtree (p, cs) does
+    -- m′ is a node of f with the production p, or with the new one where p was the old, and its subtree relates what the subtree (p, cs) does
     abbrev pub Counterpart : Bush → ℕ → ℕ → ℕ → Bush → Type 0
-    Counterpart f n m′ p cs = (p′ : ℕ) × (cs′ : Bush) × Sub f n m′ p′ cs′ × ((p ≡ p′) ⊎ ((p ≡ q) × (p′ ≡ q′))) × ((a b : ℕ) → Up G (grow p cs nil) 0 a b ↔ Up G (grow p′ cs′ nil) 0 a b)
+    Counterpart f n m′ p cs = (p′ : ℕ) × (cs′ : Bush) × Sub f n m′ p′ cs′ × ((p ≡ p′) ⊎ ((p ≡ q) × (p′ ≡ q′)))
+        × ((a b : ℕ) → Up G (grow p cs nil) 0 a b ↔ Up G (grow p′ cs′ nil) 0 a b)
 
     moved-counterpart : (f : Bush) (n n′ m m′ p : ℕ) (cs : Bush) → m′ + n ≡ m + n′ → Sub f n m p cs → Counterpart f n′ m′ p cs
     moved-counterpart f n n′ m m′ p cs e s =

@@ -32,5 +32,6 @@ module _ (G : Grammar) (W O : Inst → Inst → Type 0) (p n : ℕ) (cs rest : B
 
   pub separate : (x y : Inst) → Within n cs x → Clear n cs y → Eqv W x y → (b : Inst) × Top n b × Eqv W x b × Eqv W b y
   separate x y f c w =
-      let (b, t, g, d) = pass W (Tree G p n cs) (Beside G O p n cs rest) (Within n cs) (Clear n cs) (Top n) tree-or-beside (tree-in G p n cs) (beside-clear G W O p n cs rest A) top f c w in
+      let clear = beside-clear G W O p n cs rest A in
+      let (b, t, g, d) = pass W (Tree G p n cs) (Beside G O p n cs rest) (Within n cs) (Clear n cs) (Top n) tree-or-beside (tree-in G p n cs) clear top f c w in
       (b, t, unglue (Top n) tree-inner beside-outer g, bind beside-outer d)
