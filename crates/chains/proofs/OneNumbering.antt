@@ -60,8 +60,9 @@ module _ (G : Grammar) (L : Lawful G) (k : ℕ) (F : Bush) (kinded : Kinded G F 
     kids-same : next n ≡ next′ n → ((a : ℕ) → a < G .settings (G .left p) → num (n, a) ≡ num′ (n, a))
         → ((j : ℕ) (x : Inst) → Root cs (suc n) j (x .0) → Fitted G cs (suc n) x → num x ≡ num′ x) × (next (suc n) ≡ next′ (suc n))
     kids-same e own =
-        let (al, ek) = run-same (Exists G p) (like n) (λ o. num (setting n cs o)) (λ o. num′ (setting n cs o)) one (occurrences G 1 (G .kids p)) (occurrences G 0 (G .left p ∷ []))
-        (next n) (next (suc n)) (next′ (suc n)) tops (λ o m. child-exists G p o m .4) (numbered .below n p cs here) (rw e (numbered′ .below n p cs here)) in
+        let runs = run-same (Exists G p) (like n) (λ o. num (setting n cs o)) (λ o. num′ (setting n cs o)) one in
+        let (al, ek) = runs (occurrences G 1 (G .kids p)) (occurrences G 0 (G .left p ∷ [])) (next n) (next (suc n)) (next′ (suc n)) tops
+        (λ o m. child-exists G p o m .4) (numbered .below n p cs here) (rw e (numbered′ .below n p cs here)) in
         (λ j x r h. let (o, m, ex) = root-given G p n cs below j x r h in rw ex (al o m .1), ek)
       where
         tops : (o : Occ) → List·Memᴰ o (occurrences G 0 (G .left p ∷ [])) → Exists G p o × (num (setting n cs o) ≡ num′ (setting n cs o))
