@@ -1,7 +1,7 @@
 -- From the root down: at every node the whole tree's chains among the settings of its production instance are the closure of the production's
 -- ties, of what is chosen at the node, and of what the children relate from the bottom up.
 use mathlib.Core.Path.{refl}
-use mathlib.Core.Logic.{inl, inr, _↔_}
+use mathlib.Core.Logic.{inl, inr, _↔_, Iff·symm, Iff·trans}
 use Prim.Native.Nat.{ℕ, zero, suc, _+_}
 use Rattle.chains.specs.Grammar.{Occ, Grammar}
 use Rattle.chains.specs.Tree.{Bush, nil, grow, size, Root, Slot, Inst, At, Sub}
@@ -37,7 +37,8 @@ module _ (G : Grammar) (W O : Inst → Inst → Type 0) (p n : ℕ) (cs rest : B
 -- relates on the child's slot
 module _ (G : Grammar) (W : Inst → Inst → Type 0) (chosen : ℕ → ℕ → ℕ → Type 0) where
   abbrev pub Handed : Bush → ℕ → Type 0
-  Handed f n = (i q : ℕ) (ds : Bush) → Sub f n i q ds → (j m a b : ℕ) → Root ds (suc i) j m → chosen m a b ↔ Through G q (chosen i) ds (suc j, a) (suc j, b)
+  Handed f n = (i q : ℕ) (ds : Bush) → Sub f n i q ds → (j m a b : ℕ) → Root ds (suc i) j m
+      → chosen m a b ↔ Through G q (chosen i) ds (suc j, a) (suc j, b)
 
   abbrev pub Exactly : Bush → ℕ → Type 0
   Exactly f n = (j m a b : ℕ) → Root f n j m → Eqv W (m, a) (m, b) ↔ chosen m a b
@@ -50,11 +51,9 @@ module _ (G : Grammar) (W : Inst → Inst → Type 0) (chosen : ℕ → ℕ → 
       rw (ei, ← eq, ← ed) (node-right G W O p n cs rest A fits (chosen n) (λ a b. ex 0 n a b refl))
   down-nodes O (grow p cs rest) n A fits hand ex i q ds (inr (inl s)) =
       let here = node-right G W O p n cs rest A fits (chosen n) (λ a b. ex 0 n a b refl) in
-      let kids : Exactly cs (suc n) = λ j m a b r.
-      let (to, from) = here (suc j, a) (suc j, b) (m, a) (m, b) (r, refl) (r, refl) in
-      let (back, forth) = hand n p cs (inl (refl, refl, refl)) j m a b r in
-      (λ c. forth (to c), λ h. from (back h)) in
-      down-nodes (Above G O p n cs rest) cs (suc n) (around-children G W O p n cs rest A) (fits .1) (λ i q ds s. hand i q ds (inr (inl s))) kids i q ds s
+      let given = hand n p cs (inl (refl, refl, refl)) in
+      down-nodes (Above G O p n cs rest) cs (suc n) (around-children G W O p n cs rest A) (fits .1) (λ i q ds s. hand i q ds (inr (inl s)))
+      (λ j m a b r. Iff·trans (here (suc j, a) (suc j, b) (m, a) (m, b) (r, refl) (r, refl)) (Iff·symm (given j m a b r))) i q ds s
   down-nodes O (grow p cs rest) n A fits hand ex i q ds (inr (inr s)) =
       down-nodes (Before G O p n cs rest) rest (suc (n + size cs)) (around-rest G W O p n cs rest A) (fits .2)
       (λ i q ds s. hand i q ds (inr (inr s))) (λ j m a b r. ex (suc j) m a b r) i q ds s

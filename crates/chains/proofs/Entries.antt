@@ -3,12 +3,12 @@
 use mathlib.Core.Path.{_≡_, refl, _∙_, ap}
 use mathlib.Core.Logic.{inl, inr, _↔_, Iff·rfl, Iff·symm, Iff·trans}
 use mathlib.Core.List.{List, [], _∷_, map}
-use Prim.Native.Nat.{ℕ, zero, suc, _+_, _<_}
+use Prim.Native.Nat.{ℕ, zero, suc, _+_}
 use native.Mathlib.Omega.{arith}
 use lib.ListN.{getD}
 use Rattle.chains.specs.Grammar.{Occ, Grammar, Lawful}
 use Rattle.chains.specs.Tree.{Bush, nil, grow, size, flat, Kinded, Root, Inst, At, Sub, roots}
-use Rattle.chains.specs.Chain.{Edge, Chain, RootChains, NodeChains, Slotwise, Closure, done}
+use Rattle.chains.specs.Chain.{Edge, Chain, RootChains, NodeChains, Slotwise, Closure}
 use Rattle.chains.specs.Grouping.{Says, Alike, Each, Members}
 use Rattle.chains.specs.Plausible.{Plausible}
 use Rattle.chains.specs.Feasible.{Feasible, root, down, Chosen}

@@ -90,8 +90,9 @@ module _ (G : Grammar) (L : Lawful G) (F : Bush) (ks : List ℕ) (kinded : Kinde
   module _ (O : Inst → Inst → Type 0) (p n : ℕ) (cs rest : Bush) (A : Around G (Edge G F 0) O (grow p cs rest) n) (here : Sub F 0 n p cs)
       (below : Kinded G cs (G .kids p))
       (S : Inst → Type 0) (touch : (x : Inst) → S x → Touch (grow p cs rest) n x) (rooted : (a : ℕ) → a < G .settings (G .left p) → S (n, a)) where
-    own-setting : (b : Inst) → Top n b → Fitted G F 0 b → b .1 < G .settings (G .left p)
-    own-setting b t (q, ds, s, l) =
+    own-setting : (y b : Inst) → n < y .0 → Top n b → (y ≡ b) ⊎ (Fitted G F 0 y × Fitted G F 0 b) → b .1 < G .settings (G .left p)
+    own-setting y b h t (inl e) = let e₀ = ap (λ (z : Inst). z .0) e in absurd (omega arith)
+    own-setting y b h t (inr (f, (q, ds, s, l))) =
         let s′ : Sub F 0 n q ds = rw t at s in
         let e = ap (λ q. G .left q) (sub-one F 0 n q p ds cs s′ here .0) in
         rw (← e) l
@@ -103,8 +104,7 @@ module _ (G : Grammar) (L : Lawful G) (F : Bush) (ks : List ℕ) (kinded : Kinde
         let (j, r, u) = given-root G p n cs below y (o, m, refl) in
         let iy = root-in cs (suc n) j (y .0) r in
         let (b, t, d, d′) = separate G (Edge G F 0) O p n cs rest A y x (omega arith) (free p n cs rest x (touch x s)) (back c) in
-        let l : b .1 < G .settings (G .left p) = elim (chain-fitted G L F ks 0 kinded d)
-        [ inl e ↦ (let e₀ = ap (λ (z : Inst). z .0) e in absurd (omega arith)) | inr h ↦ own-setting b t (h .1) ] in
+        let l = own-setting y b (omega arith) t (chain-fitted G L F ks 0 kinded d) in
         ((0, b .1), occurrence-listed G 0 (G .left p ∷ []) (0, b .1) (0, refl, omega arith, l), subst (λ i. Chain G F 0 (i, b .1) y) t (back d))
 
     tells : Tells (Edge G F 0) num (like n) (setting n cs) (occurrences G 0 (G .left p ∷ [])) (occurrences G 1 (G .kids p))
