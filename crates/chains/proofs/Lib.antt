@@ -1,0 +1,7 @@
+pub mod Closure
+pub mod Range
+pub mod Forest
+pub mod Local
+pub mod Upward
+
+pub mod Labels
