@@ -7,3 +7,5 @@ pub mod Room
 pub mod MapTo
 pub mod Filled
 pub mod Sought
+pub mod Places
+pub mod Copied
