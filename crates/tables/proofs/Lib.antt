@@ -1,1 +1,2 @@
 pub mod StateLoops
+pub mod StateNumbers

@@ -1,27 +1,29 @@
 -- The loops over a state: what a turn of each does to what its definition has come to.
 use mathlib.Core.Path.{_≡_, refl, sym, ap, ap₂, _∙_}
 use mathlib.Core.Logic.{inl, inr}
-use mathlib.Core.Bool.{Bool, true, false}
+use mathlib.Core.Bool.{Bool, true, false, true≢false}
 use mathlib.Core.List.{List, [], _∷_, _++_, append-nil}
 use Prim.Native.Nat.{ℕ, zero, suc, _+_, _-_, _*_, _^_, _≤_, _<_}
 use native.Mathlib.Nat.{add-zero, pow-suc}
 use native.Mathlib.Numerals.{add-one}
 use native.Mathlib.Omega.{arith}
+use borrow.Author.Count.{below-more}
 use borrow.Author.Tests.{eqb-true, eq-eqb, ne-eqb}
 use lib.Dec.{eqb}
 use lib.Pow.{pow-add}
 use lib.ListN.{length, getD, set, replicate, length-set, length-replicate, replicate-append-replicate, take-append-drop}
-use lib.Seq.{set-getD}
+use lib.Seq.{set-getD, ext-getD, take-all}
 use Rattle.lists.specs.Pick.{pick}
-use Rattle.lists.specs.Part.{place}
-use Rattle.lists.proofs.Parts.{place-long}
+use Rattle.lists.specs.Part.{part, place}
+use Rattle.lists.proofs.Parts.{length-part, getD-part}
+use Rattle.lists.proofs.Copied.{Copying, copy-turn, copy-done}
 use Rattle.lists.proofs.Carry.{placed}
 use Rattle.chains.specs.Limits.{max-settings}
 use Rattle.chains.specs.Grouping.{label}
 use Rattle.chains.specs.Labels.{swap, relabel, joinAt, joins}
 use Rattle.chains.proofs.Labels.{length-joinAt, joins-more}
 use Rattle.ranks.specs.Entries.{labels, none}
-use Rattle.tables.specs.State.{Low, spot, upto, with-label, leader, to-leader, tied, Numbered}
+use Rattle.tables.specs.State.{Low, spot, upto, with-label, leader, to-leader, tied, Numbered, Tells}
 
 -- ---- joining along pairs
 swap-same : (a x : ℕ) → swap a a x ≡ x
@@ -147,3 +149,38 @@ module _ {s₀ : List ℕ} {base n : ℕ} {s : List ℕ} {i : ℕ} (h : Emptying
 
   pub empty-done : n ≤ i → s ≡ place base (replicate n none) s₀
   empty-done l = let e : i ≡ n = omega (arith, h .few) in h .held ∙ ap (λ (k : ℕ). place base (replicate k none) s₀) e
+
+-- ---- a state held against part of a list
+pub record Comparing (s t : List ℕ) (from o : ℕ) : Type 0 where
+  pub at : o ≤ labels
+  pub alike : (i : ℕ) → i < o → getD s i 0 ≡ getD t (from + i) 0
+
+pub compare-begun : (s t : List ℕ) (from : ℕ) → Comparing s t from 0
+compare-begun s t from = record { at = omega arith; alike = λ i h. absurd (omega arith) }
+
+module _ {s t : List ℕ} {from o : ℕ} where
+  pub compare-turn : Comparing s t from o → o < labels → getD s o 0 ≡ getD t (from + o) 0 → Comparing s t from (o + 1)
+  compare-turn h l e = record { at = omega arith; alike = below-more _ _ (h .alike) e }
+
+  pub compare-done : Comparing s t from o → labels ≤ o → length s ≡ labels → from + labels ≤ length t → Tells true (part from labels t ≡ s)
+  compare-done h l a b = record { yes = λ _. ext-getD 0 (part from labels t) s (length-part from labels t b ∙ sym a) go; no = λ e. absurd (true≢false e) }
+    where
+      go : (i : ℕ) → i < length (part from labels t) → getD (part from labels t) i 0 ≡ getD s i 0
+      go i k =
+          let m : i < labels = omega (arith, length-part from labels t b) in
+          getD-part from labels t i 0 m ∙ sym (h .alike i (omega arith))
+
+  pub compare-apart : Comparing s t from o → o < labels → (getD s o 0 ≡ getD t (from + o) 0 → ⊥) → Tells false (part from labels t ≡ s)
+  compare-apart h l n = record {
+    yes = λ e. absurd (true≢false (sym e));
+    no = λ _ p. n (ap (λ (u : List ℕ). getD u o 0) (sym p) ∙ getD-part from labels t o 0 l);
+  }
+
+-- ---- a state put into a list
+pub copied : {s t₀ t : List ℕ} {from o : ℕ} → Copying s t₀ 0 from labels t o → labels ≤ o → length s ≡ labels → t ≡ place from s t₀
+copied {s} {t₀} {t} {from} {o} h l a = copy-done h l ∙ ap (λ (u : List ℕ). place from u t₀) (take-all labels s (omega arith))
+
+pub copy-next : {s t₀ t : List ℕ} {from o : ℕ} → Copying s t₀ 0 from labels t o → o < labels → Copying s t₀ 0 from labels (set t (from + o) (getD s o 0)) (o + 1)
+copy-next {s} {t₀} {t} {from} {o} h l =
+    let e : 0 + o ≡ o = omega arith in
+    rw e at (copy-turn h l)

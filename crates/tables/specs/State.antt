@@ -8,9 +8,9 @@ use Prim.Native.Nat.{ℕ, zero, suc, _+_, _-_, _*_, _/_, _%_, _<_}
 use lib.Dec.{eqb, ltb}
 use lib.ListN.{length, getD, set, replicate}
 use Rattle.lists.specs.Pick.{pick}
-use Rattle.lists.specs.Part.{place}
+use Rattle.lists.specs.Part.{part, place}
 use Rattle.chains.specs.Limits.{max-settings}
-use Rattle.chains.specs.Grouping.{label}
+use Rattle.chains.specs.Grouping.{label, pack}
 use Rattle.chains.specs.Labels as labelling
 use Rattle.book.specs.Format.{left-at, arity-at, pairs-at}
 use Rattle.book.specs.Reading.{settings-of, kid-at, to-at, from-at}
@@ -92,6 +92,11 @@ tidyFrom seen (x ∷ l) = pick (eqb x none) (none ∷ tidyFrom seen l) (labellin
 abbrev pub tidied : List ℕ → List ℕ
 tidied s = tidyFrom [] s
 
+-- ── a slot's code ──
+unfoldable pub viewed : List ℕ → ℕ → ℕ → ℕ
+viewed s t a = pack (labelling.canon (part (t * max-settings) a s))
+
+-- ── the table of numbers by which both are worked out ──
 -- a table t of the numbers that labels have: what x has, or gets as the next one
 pub record Numbered (t : List ℕ) (x next : ℕ) (t′ : List ℕ) (r : ℕ) : Type 0 where
   pub answer : r ≡ pick (eqb (getD t x 0) none) next (getD t x 0)

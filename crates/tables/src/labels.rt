@@ -10,7 +10,7 @@ ghost use Rattle.chains.specs.Limits.{max-settings, max-kids};
 ghost use Rattle.chains.specs.Grouping.{label, pack};
 ghost use Rattle.chains.specs.Labels.{swap, relabel, joinAt, canon};
 ghost use Rattle.ranks.specs.Entries.{labels, none};
-ghost use Rattle.tables.specs.State.{Low, State, Whole, Numbered, Renumbered, spot, leader, tied, forgotten, tidied, Tells};
+ghost use Rattle.tables.specs.State.{Low, State, Whole, Numbered, Renumbered, spot, leader, tied, forgotten, tidied, viewed, Tells};
 
 // Settings to a slot, and slots to a production: what an occurrence number counts.
 pub const SETTINGS: usize = 8;
@@ -144,4 +144,76 @@ fn following(next: u8, k: u8) -> u8
     ensures { λ r. ⌜ r ≡ pick (eqb k next) (next + 1) next ⌝ }
 {
     if k == next { next + 1 } else { next }
+}
+
+// Labels by first appearance, so that equal groupings are equal arrays.
+pub fn tidy(s: &mut [u8; LABELS])
+    requires { ⌜ State (now s) ⌝ }
+    ensures { λ _. ⌜ now (s .exit) ≡ tidied (now (s .entry)) ⌝ }
+{
+    let mut numbers = [NONE; LABELS];
+    let mut next: u8 = 0;
+    let mut o = 0;
+    while o < LABELS {
+        let k = renumber(&mut numbers, s[o], next);
+        next = following(next, k);
+        s[o] = k;
+        o += 1;
+    }
+}
+
+// A label put behind the first x ones of a code.
+fn put_label(code: u32, x: u32, k: u8) -> u32
+    requires { ⌜ (x < max-settings) × (k < 8) × (code < 8 ^ x) ⌝ }
+    ensures { λ r. ⌜ (r ≡ code + k * 8 ^ x) × (r < 8 ^ (x + 1)) ⌝ }
+{
+    code | ((k as u32) << (3 * x))
+}
+
+// The code, by first appearance, of the first a settings of a slot, which are all there.
+pub fn view(s: &[u8; LABELS], slot: usize, a: u32) -> u32
+    requires { ⌜ State (now s) × (slot ≤ max-kids) × (a ≤ max-settings) × Whole (now s) slot a ⌝ }
+    ensures { λ r. ⌜ r ≡ viewed (now (s .entry)) slot a ⌝ }
+{
+    let base = slot * SETTINGS;
+    let mut numbers = [NONE; LABELS];
+    let mut next: u8 = 0;
+    let mut code: u32 = 0;
+    let mut x: u32 = 0;
+    while x < a {
+        let k = number(&mut numbers, s[base + x as usize], next);
+        next = following(next, k);
+        code = put_label(code, x, k);
+        x += 1;
+    }
+    code
+}
+
+// ---- states kept in a list
+
+// Whether the labels stand in t, from a place on.
+pub fn same_state(s: &[u8; LABELS], t: &[u8], from: usize) -> bool
+    requires { ⌜ (length (now s) ≡ labels) × (from + labels ≤ length (now t)) ⌝ }
+    ensures { λ r. ⌜ Tells r (part from labels (now (t .entry)) ≡ now (s .entry)) ⌝ }
+{
+    let mut o = 0;
+    while o < LABELS {
+        if s[o] != t[from + o] {
+            return false;
+        }
+        o += 1;
+    }
+    true
+}
+
+// The labels put into t, from a place on.
+pub fn copy_state(s: &[u8; LABELS], t: &mut [u8], from: usize)
+    requires { ⌜ (length (now s) ≡ labels) × (from + labels ≤ length (now t)) ⌝ }
+    ensures { λ _. ⌜ now (t .exit) ≡ place from (now (s .entry)) (now (t .entry)) ⌝ }
+{
+    let mut o = 0;
+    while o < LABELS {
+        t[from + o] = s[o];
+        o += 1;
+    }
 }
