@@ -305,7 +305,9 @@ module _ {s : List ℕ} (st : State s) {u a : ℕ} (hu : u ≤ max-kids) (ha : a
   slot-turn {x = x} h l m p = view-turn h (omega (arith, slot-long)) (rw (slot-at x l) (slot-low x l)) (omega arith) (rw (slot-at x l) m) p
 
   pub slot-small : {t t′ : List ℕ} {n k c x : ℕ} → Viewing (part (u * max-settings) a s) t n c x → x < a → Numbered t (getD s (spot u x) 0) n t′ k → k < 8
-  slot-small {x = x} h l m = view-small h (omega (arith, slot-long)) (rw (slot-at x l) (slot-low x l)) (omega arith) (rw (slot-at x l) m)
+  slot-small {t = t} {t′ = t′} {n = n} {k = k} {x = x} h l m =
+      let m′ : Numbered t (getD (part (u * max-settings) a s) x 0) n t′ k = rw (slot-at x l) m in
+      view-small h (omega (arith, slot-long)) (rw (slot-at x l) (slot-low x l)) (omega arith) m′
 
   pub slot-done : {t : List ℕ} {n c x : ℕ} → Viewing (part (u * max-settings) a s) t n c x → a ≤ x → c ≡ viewed s u a
   unfolding viewed
@@ -319,7 +321,8 @@ shifted-in c x k hx hk hc =
     let e : 2 ^ (3 * x) ≡ 8 ^ x = two-eight x in
     let m : k * 8 ^ x ≤ 7 * 8 ^ x = mul-le-mul-right (8 ^ x) (omega arith) in
     let s : 8 ^ (x + 1) ≡ 8 ^ x * 8 = ap (λ (z : ℕ). 8 ^ z) (add-one x) ∙ pow-suc 8 x in
-    let t : 8 ^ (x + 1) ≤ 16777216 = pow-le-pow-right {n = 8} (omega arith) (omega arith) in
+    let j : x + 1 ≤ 8 = omega arith in
+    let t : 8 ^ (x + 1) ≤ 8 ^ 8 = pow-le-pow-right (omega arith) j in
     let q : k * 2 ^ (3 * x) % 4294967296 ≡ k * 2 ^ (3 * x) = mod-eq-of-lt (omega (arith, ap (λ (z : ℕ). k * z) e)) in
     let r : bitOr c (k * 2 ^ (3 * x) % 4294967296) ≡ c + k * 8 ^ x =
         ap (bitOr c) q ∙ or-shifted-r k (3 * x) c (omega arith) ∙ add-comm (k * 2 ^ (3 * x)) c ∙ ap (λ (z : ℕ). c + k * z) e in
