@@ -3,16 +3,16 @@ use mathlib.Core.Path.{_≡_, refl, sym, ap, ap₂, _∙_}
 use mathlib.Core.Logic.{inl, inr}
 use mathlib.Core.Bool.{Bool, true, false, true≢false}
 use mathlib.Core.List.{List, [], _∷_, _++_, append-nil}
-use Prim.Native.Nat.{ℕ, zero, suc, _+_, _-_, _*_, _^_, _≤_, _<_}
+use Prim.Native.Nat.{ℕ, zero, suc, _+_, _-_, _*_, _/_, _%_, _^_, _≤_, _<_}
 use native.Mathlib.Nat.{add-zero, pow-suc}
 use native.Mathlib.Numerals.{add-one}
 use native.Mathlib.Omega.{arith}
 use borrow.Author.Count.{below-more}
-use borrow.Author.Tests.{eqb-true, eq-eqb, ne-eqb}
+use borrow.Author.Tests.{eqb-true, eq-eqb, ne-eqb, lt-ltb, le-ltb}
 use lib.Dec.{eqb}
 use lib.Pow.{pow-add}
-use lib.ListN.{length, getD, set, replicate, length-set, length-replicate, replicate-append-replicate, take-append-drop}
-use lib.Seq.{set-getD, ext-getD, take-all}
+use lib.ListN.{length, getD, set, take, replicate, length-set, length-replicate, replicate-append-replicate, take-append-drop}
+use lib.Seq.{set-getD, ext-getD, take-all, take-suc-set}
 use Rattle.lists.specs.Pick.{pick}
 use Rattle.lists.specs.Part.{part, place}
 use Rattle.lists.proofs.Parts.{length-part, getD-part}
@@ -21,9 +21,12 @@ use Rattle.lists.proofs.Carry.{placed}
 use Rattle.chains.specs.Limits.{max-settings}
 use Rattle.chains.specs.Grouping.{label}
 use Rattle.chains.specs.Labels.{swap, relabel, joinAt, joins}
-use Rattle.chains.proofs.Labels.{length-joinAt, joins-more}
+use Rattle.chains.specs.Labels as labelling
+use Rattle.chains.proofs.Labels.{length-joinAt, length-labels, joins-more}
+use Rattle.book.specs.Format.{left-at, arity-at, pairs-at}
+use Rattle.book.specs.Reading.{settings-of, kid-at, to-at, from-at}
 use Rattle.ranks.specs.Entries.{labels, none}
-use Rattle.tables.specs.State.{Low, spot, upto, with-label, leader, to-leader, tied, Numbered, Tells}
+use Rattle.tables.specs.State.{Low, spot, Readable, kind-in, width-in, own, apart, pair-at, based, upto, with-label, leader, to-leader, tied, Numbered, Tells}
 
 -- ---- joining along pairs
 swap-same : (a x : ℕ) → swap a a x ≡ x
@@ -47,7 +50,86 @@ pub join-turn : (s : List ℕ) (f : ℕ → ℕ × ℕ) (i : ℕ) → joinAt (jo
 unfolding upto joins
 join-turn s f i = rw (add-one i) (joins-more s (upto f i) (f i ∷ []))
 
--- a slot tied so far
+-- ---- a production's own occurrences, read off its entry
+module _ (b : List ℕ) (at : ℕ) where
+  pub left-kind : {t k : ℕ} → t ≡ 0 → k ≡ left-at b at → k ≡ kind-in b at t
+  left-kind {t} {k} e h = h ∙ sym (rw (eq-eqb t 0 e))
+
+  pub kid-kind : {t k : ℕ} → (t ≡ 0 → ⊥) → k ≡ kid-at b at (t - 1) → k ≡ kind-in b at t
+  kid-kind {t} {k} e h = h ∙ sym (rw (ne-eqb t 0 e))
+
+  pub no-slot : {t n : ℕ} → n ≡ arity-at b at → n < t → 0 ≡ width-in b at t
+  no-slot {t} {n} e h = sym (rw (lt-ltb (arity-at b at) t (rw e at h)))
+
+  pub some-slot : {t n k w : ℕ} → n ≡ arity-at b at → t ≤ n → k ≡ kind-in b at t → w ≡ settings-of b k → w ≡ width-in b at t
+  some-slot {t} {n} {k} {w} e h p q = q ∙ ap (settings-of b) p ∙ sym (rw (le-ltb (arity-at b at) t (rw e at h)))
+
+  pub own-there : (o : ℕ) {a t w : ℕ} → a ≡ o % max-settings → t ≡ o / max-settings → w ≡ width-in b at t → a < w → o ≡ own b at o
+  own-there o {a} {t} {w} p q r h = sym (rw (lt-ltb (o % max-settings) (width-in b at (o / max-settings)) (rw (p, r, q) at h)))
+
+  pub own-missing : (o : ℕ) {a t w : ℕ} → a ≡ o % max-settings → t ≡ o / max-settings → w ≡ width-in b at t → w ≤ a → none ≡ own b at o
+  own-missing o {a} {t} {w} p q r h = sym (rw (le-ltb (o % max-settings) (width-in b at (o / max-settings)) (rw (p, r, q) at h)))
+
+-- ---- every occurrence by itself
+labels-snoc : (f : ℕ → ℕ) (k n : ℕ) → labelling.labels f k (suc n) ≡ labelling.labels f k n ++ f (k + n) ∷ []
+unfolding labelling.labels
+labels-snoc f k zero = ap (λ (z : ℕ). f z ∷ []) (omega arith)
+labels-snoc f k (suc n) =
+    let e : suc k + n ≡ k + suc n = omega arith in
+    ap (λ (l : List ℕ). f k ∷ l) (labels-snoc f (suc k) n ∙ ap (λ (z : ℕ). labelling.labels f (suc k) n ++ f z ∷ []) e)
+
+-- the first o places have what f gives
+pub record Laying (f : ℕ → ℕ) (s : List ℕ) (o : ℕ) : Type 0 where
+  pub at : o ≤ labels
+  pub long : length s ≡ labels
+  pub held : take o s ≡ labelling.labels f 0 o
+
+pub lay-begun : (f : ℕ → ℕ) (s : List ℕ) → length s ≡ labels → Laying f s 0
+unfolding labelling.labels
+lay-begun f s h = record { at = omega arith; long = h; held = refl }
+
+module _ {f : ℕ → ℕ} {s : List ℕ} {o : ℕ} (h : Laying f s o) where
+  pub lay-turn : {x : ℕ} → o < labels → x ≡ f o → Laying f (set s o x) (o + 1)
+  lay-turn {x} l e =
+      let z : 0 + o ≡ o = omega arith in
+      record {
+        at = omega arith;
+        long = length-set s o x ∙ h .long;
+        held = ap (λ (k : ℕ). take k (set s o x)) (add-one o) ∙ take-suc-set s o x (omega (arith, h .long))
+            ∙ rw (h .held, e, add-one o) (sym (rw z at (labels-snoc f 0 o)));
+      }
+
+  pub lay-done : labels ≤ o → s ≡ labelling.labels f 0 labels
+  lay-done l =
+      let e : o ≡ labels = omega (arith, h .at) in
+      sym (take-all o s (omega (arith, h .long))) ∙ h .held ∙ ap (labelling.labels f 0) e
+
+-- ---- pairs joined so far
+pub record Basing (b : List ℕ) (at : ℕ) (s : List ℕ) (i : ℕ) : Type 0 where
+  pub few : i ≤ pairs-at b at
+  pub long : length s ≡ labels
+  pub held : s ≡ joins (apart b at) (upto (pair-at b at) i)
+
+pub base-begun : (b : List ℕ) (at : ℕ) (s : List ℕ) → s ≡ apart b at → Basing b at s 0
+unfolding joins upto
+base-begun b at s e = record { few = omega arith; long = ap length e ∙ length-labels (own b at) 0 labels; held = e }
+
+module _ {b : List ℕ} {at : ℕ} {s : List ℕ} {i : ℕ} (h : Basing b at s i) where
+  pub base-low : {x y : ℕ} → Readable b at → i < pairs-at b at → x ≡ to-at b at i → y ≡ from-at b at i → (x < labels) × (y < labels) × (length s ≡ labels)
+  base-low r l p q = (rw p (r i l .0), rw q (r i l .1), h .long)
+
+  pub base-turn : (x y : ℕ) (s′ : List ℕ) → i < pairs-at b at → x ≡ to-at b at i → y ≡ from-at b at i → s′ ≡ joinAt s x y → Basing b at s′ (i + 1)
+  base-turn x y s′ l p q j = record {
+    few = omega arith;
+    long = ap length j ∙ length-joinAt s x y ∙ h .long;
+    held = j ∙ rw (p, q, h .held) (join-turn (apart b at) (pair-at b at) i);
+  }
+
+  pub base-done : pairs-at b at ≤ i → s ≡ based b at
+  unfolding based
+  base-done l = let e : i ≡ pairs-at b at = omega (arith, h .few) in h .held ∙ ap (λ (k : ℕ). joins (apart b at) (upto (pair-at b at) k)) e
+
+-- ---- a slot tied so far
 pub record Tying (s₀ : List ℕ) (t a c : ℕ) (s : List ℕ) (x : ℕ) : Type 0 where
   pub few : x ≤ a
   pub long : length s ≡ length s₀

@@ -60,9 +60,17 @@ upto f (suc n) = upto f n ++ f n ∷ []
 abbrev pub pair-at : List ℕ → ℕ → ℕ → ℕ × ℕ
 pair-at b at i = (to-at b at i, from-at b at i)
 
--- every occurrence by itself, then the ends of each pair joined
+-- every occurrence by itself
+abbrev pub apart : List ℕ → ℕ → List ℕ
+apart b at = labelling.labels (own b at) 0 labels
+
+-- the ends of each pair joined
 unfoldable pub based : List ℕ → ℕ → List ℕ
-based b at = labelling.joins (labelling.labels (own b at) 0 labels) (upto (pair-at b at) (pairs-at b at))
+based b at = labelling.joins (apart b at) (upto (pair-at b at) (pairs-at b at))
+
+-- the pairs name occurrence numbers
+abbrev pub Readable : List ℕ → ℕ → Type 0
+Readable b at = (i : ℕ) → i < pairs-at b at → (to-at b at i < labels) × (from-at b at i < labels)
 
 -- ── a slot joined as a code groups it ──
 -- the first setting from i on, of the next n, that has the label v in the code c; the one after them where none has it
