@@ -1,6 +1,6 @@
 -- Closures, and the gluing lemma: where two sides meet at a border only, chains between points of one side need of the other side nothing
 -- but its chains from border to border.
-use mathlib.Core.Path.{_≡_, refl}
+use mathlib.Core.Path.{_≡_, refl, sym, _∙_}
 use mathlib.Core.Logic.{_⊎_, inl, inr}
 use Rattle.chains.specs.Chain.{Eqv, done, fwd, bwd}
 
@@ -35,12 +35,25 @@ no-edge h done = refl
 no-edge h (fwd {y = y} {z = z} d r) = absurd (h y z r)
 no-edge h (bwd {y = y} {z = z} d r) = absurd (h z y r)
 
--- where both ends of every edge have P, so have both ends of a chain that goes anywhere
-pub real-ends : {X : Type 0} {R : X → X → Type 0} (P : X → Type 0) → ((x y : X) → R x y → P x × P y)
+-- where every edge that goes anywhere has ends with P, so has every chain
+pub real-ends : {X : Type 0} {R : X → X → Type 0} (P : X → Type 0) → ((x y : X) → R x y → (x ≡ y) ⊎ (P x × P y))
     → {x y : X} → Eqv R x y → (x ≡ y) ⊎ (P x × P y)
-real-ends P h done = inl refl
-real-ends P h (fwd {y = y} {z = z} d r) = elim (real-ends P h d) [ inl e ↦ inr (rw e (h y z r)) | inr q ↦ inr (q .0, h y z r .1) ]
-real-ends P h (bwd {y = y} {z = z} d r) = elim (real-ends P h d) [ inl e ↦ inr (rw e (h z y r .1, h z y r .0)) | inr q ↦ inr (q .0, h z y r .0) ]
+real-ends {X = X} {R = R} P h c = go c
+  where
+    onward : {x y z : X} → (x ≡ y) ⊎ (P x × P y) → (y ≡ z) ⊎ (P y × P z) → (x ≡ z) ⊎ (P x × P z)
+    onward (inl e) (inl e′) = inl (e ∙ e′)
+    onward (inl e) (inr q) = inr (rw e q)
+    onward (inr p) (inl e) = inr (rw e at p)
+    onward (inr p) (inr q) = inr (p .0, q .1)
+
+    turned : {x y : X} → (x ≡ y) ⊎ (P x × P y) → (y ≡ x) ⊎ (P y × P x)
+    turned (inl e) = inl (sym e)
+    turned (inr p) = inr (p .1, p .0)
+
+    go : {x y : X} → Eqv R x y → (x ≡ y) ⊎ (P x × P y)
+    go done = inl refl
+    go (fwd {y = y} {z = z} d r) = onward (go d) (h y z r)
+    go (bwd {y = y} {z = z} d r) = onward (go d) (turned (h z y r))
 
 -- E's edges, and F's chains from border to border
 abbrev pub Glued : {X : Type 0} (E F : X → X → Type 0) (B : X → Type 0) → X → X → Type 0

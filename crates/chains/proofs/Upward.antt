@@ -28,7 +28,7 @@ abbrev pub Nowhere : Inst → Inst → Type 0
 Nowhere x y = ⊥
 
 module _ (G : Grammar) where
-  own-or-below : (p n : ℕ) (cs : Bush) (x y : Inst) → Tree G p n cs x y → (Own G p n cs x y ⊎ ⊥) ⊎ Edge G cs (suc n) x y
+  pub own-or-below : (p n : ℕ) (cs : Bush) (x y : Inst) → Tree G p n cs x y → (Own G p n cs x y ⊎ ⊥) ⊎ Edge G cs (suc n) x y
   own-or-below p n cs x y (inl e) = inl (inl e)
   own-or-below p n cs x y (inr e) = inr e
 
