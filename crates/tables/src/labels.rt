@@ -1,16 +1,18 @@
 // The labels of a production's occurrences while its groups are worked out: equal labels stand in one group, and NONE where there is no such
 // occurrence or where it was dropped.
 ghost use mathlib.Core.Path.{_≡_};
-ghost use Prim.Native.Nat.{_+_, _*_, _/_, _%_, _^_, _<_, _≤_};
-ghost use lib.ListN.{length, getD, set};
+ghost use Prim.Native.Nat.{_+_, _*_, _^_, _<_, _≤_};
+ghost use lib.ListN.{length};
 ghost use lib.Dec.{eqb};
 ghost use Rattle.lists.specs.Pick.{pick};
 ghost use Rattle.lists.specs.Part.{part, place};
+ghost use Rattle.lists.specs.Sought.{Least};
 ghost use Rattle.chains.specs.Limits.{max-settings, max-kids};
-ghost use Rattle.chains.specs.Grouping.{label, pack};
-ghost use Rattle.chains.specs.Labels.{swap, relabel, joinAt, canon};
+ghost use Rattle.chains.specs.Grouping.{label};
+ghost use Rattle.chains.specs.Labels.{swap, relabel, joinAt, joins};
+ghost use Rattle.chains.specs.State.{code-pairs, dropped, code-on};
 ghost use Rattle.ranks.specs.Entries.{labels, none};
-ghost use Rattle.tables.specs.State.{Low, State, Whole, Readable, kind-in, width-in, own, apart, based, Numbered, Renumbered, spot, leader, tied, forgotten, tidied, viewed, Tells};
+ghost use Rattle.tables.specs.State.{Low, State, Whole, Readable, kind-in, width-in, own, apart, based, Numbered, Renumbered, tidied, Tells};
 
 // Settings to a slot, and slots to a production: what an occurrence number counts.
 pub const SETTINGS: usize = 8;
@@ -131,7 +133,7 @@ fn label(code: u32, x: u8) -> u8
 // The first setting that has the label of the setting x.
 fn first_alike(code: u32, x: u8) -> u8
     requires { ⌜ x < max-settings ⌝ }
-    ensures { λ r. ⌜ (r ≡ leader code x) × (r ≤ x) ⌝ }
+    ensures { λ r. ⌜ Least (λ k. label code k ≡ label code x) (x + 1) r ⌝ }
 {
     let v = label(code, x);
     let mut i = 0;
@@ -147,7 +149,7 @@ fn first_alike(code: u32, x: u8) -> u8
 // The first a settings of a slot joined as the code groups them: each with the first one of its label.
 pub fn tie(s: &mut [u8; LABELS], slot: u8, a: u8, code: u32)
     requires { ⌜ (length (now s) ≡ labels) × (slot ≤ max-kids) × (a ≤ max-settings) ⌝ }
-    ensures { λ _. ⌜ now (s .exit) ≡ tied (now (s .entry)) slot a code ⌝ }
+    ensures { λ _. ⌜ now (s .exit) ≡ joins (now (s .entry)) (code-pairs slot a code) ⌝ }
 {
     let base = slot as usize * SETTINGS;
     let mut x = 0;
@@ -162,7 +164,7 @@ pub fn tie(s: &mut [u8; LABELS], slot: u8, a: u8, code: u32)
 
 pub fn forget(s: &mut [u8; LABELS], slot: u8)
     requires { ⌜ (length (now s) ≡ labels) × (slot ≤ max-kids) ⌝ }
-    ensures { λ _. ⌜ now (s .exit) ≡ forgotten (now (s .entry)) slot ⌝ }
+    ensures { λ _. ⌜ now (s .exit) ≡ dropped slot (now (s .entry)) ⌝ }
 {
     let base = slot as usize * SETTINGS;
     let mut x = 0;
@@ -233,7 +235,7 @@ fn put_label(code: u32, x: u8, k: u8) -> u32
 // The code, by first appearance, of the first a settings of a slot, which are all there.
 pub fn view(s: &[u8; LABELS], slot: u8, a: u8) -> u32
     requires { ⌜ State (now s) × (slot ≤ max-kids) × (a ≤ max-settings) × Whole (now s) slot a ⌝ }
-    ensures { λ r. ⌜ r ≡ viewed (now (s .entry)) slot a ⌝ }
+    ensures { λ r. ⌜ r ≡ code-on slot a (now (s .entry)) ⌝ }
 {
     let base = slot as usize * SETTINGS;
     let mut numbers = [NONE; LABELS];

@@ -51,10 +51,10 @@ loop-again : tie.Need-loop-again Inv-loop μ-loop
 loop-again c = 
     let o = c .before .before .before .before .before .before .before in
     let l = rw (o .before .pairs .ensures) at (c .before .before .before .before .before .before .loop-test .taken) in
-    base-turn (o .loop .inv) _ _ _ l (c .before .before .before .wide .ensures .0 ∙ c .before .before .before .before .to .ensures) (c .before .wide2 .ensures .0 ∙ c .before .before .from .ensures) (c .merge .ensures)
+    base-turn (o .loop .inv) (c .before .before .before .before .before .before .before .before .before .before .before .before .pre .1) _ _ _ l (c .before .before .before .wide .ensures .0 ∙ c .before .before .before .before .to .ensures) (c .before .wide2 .ensures .0 ∙ c .before .before .from .ensures) (c .merge .ensures)
 
 returns : tie.Need-returns Inv-loop μ-loop
-returns c = base-done (c .before .loop .inv) (rw (c .before .before .pairs .ensures) at (c .loop-test .left))
+returns c = base-done (c .before .loop .inv) (c .before .before .before .before .before .before .pre .1) (rw (c .before .before .pairs .ensures) at (c .loop-test .left))
 
 pub base-spec : {M : Type 1} → statement M
 base-spec =
