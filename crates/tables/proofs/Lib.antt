@@ -1,2 +1,4 @@
 pub mod StateLoops
 pub mod StateNumbers
+pub mod StateKept
+pub mod StateTidy
