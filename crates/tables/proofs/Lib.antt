@@ -2,3 +2,4 @@ pub mod StateLoops
 pub mod StateNumbers
 pub mod StateKept
 pub mod StateTidy
+pub mod State
