@@ -5,3 +5,8 @@ pub mod Holds
 pub mod Entries
 pub mod Promise
 pub mod BitSets
+pub mod StateLoops
+pub mod StateNumbers
+pub mod StateKept
+pub mod StateTidy
+pub mod State
