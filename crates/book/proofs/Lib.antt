@@ -1,6 +1,7 @@
 pub mod Bytes
 pub mod Places
 pub mod Answers
+pub mod Decided
 pub mod Laying
 pub mod Bits
 pub mod Kinding
@@ -11,3 +12,5 @@ pub mod Passing
 pub mod Marking
 pub mod Rows
 pub mod Cascade
+pub mod Accepted
+pub mod Once

@@ -18,18 +18,11 @@ use Rattle.book.specs.Reading.{settings-of, mask-of, kind-in, to-at, fro
 use Rattle.book.specs.Refusals.{BadTies}
 use Rattle.book.specs.Search.{Tells, Stands, alone, Fair, Climbs}
 use Rattle.book.proofs.Answers.{tells-lt, tells-eq}
+use Rattle.book.proofs.Decided.{exists-decided}
 use Rattle.book.proofs.Laying.{settings-is, inherits-is}
 use Rattle.book.proofs.Entry.{no-tie, kids-long, kind-in-is, ties-count, tie-is}
 
 -- ── occurrences ──
-pub exists-decided : (G : Grammar) (p : ℕ) (o : Occ) → Dec (Exists G p o)
-exists-decided G p o = go (decLt (o .0) (length (slots G p))) (decLt (o .1) (width G p (o .0)))
-  where
-    go : Dec (o .0 < length (slots G p)) → Dec (o .1 < width G p (o .0)) → Dec (Exists G p o)
-    go (yes h) (yes l) = yes (h, l)
-    go (yes h) (no l) = no (λ e. l (e .1))
-    go (no h) l = no (λ e. h (e .0))
-
 module _ {b : List ℕ} {at : ℕ} (s : Stands b at) (o : ℕ) where
   pub no-slot : arity-at b at < o / 8 → Exists (alone b at) 0 (occ o) → ⊥
   no-slot h e = omega (arith, e .0, kids-long s)
