@@ -28,10 +28,11 @@ module _ (G : Grammar) (W O : Inst → Inst → Type 0) (p n : ℕ) (cs rest : B
   slots-chained (suc j) a b m r t = more (λ x y e. A .inner x y (inr (inl e))) (up-chain G cs (suc n) j m a b (fits .1) r t)
 
   pub node-right : (o o′ : Occ) (x y : Inst) → At n cs o x → At n cs o′ y → Eqv W x y ↔ Through G p ρ cs o o′
-  node-right o o′ x y h h′ =
-      ( λ c. join-mono G p (Seen G n cs (Beside G O p n cs rest)) (Slotwise ρ (Up G cs)) seen-slots
-          (local G p n cs W (Beside G O p n cs rest) (apart G W O p n cs rest A) (beside-clear G W O p n cs rest A) o o′ x y h h′ c)
-      , whole G p n cs W (Slotwise ρ (Up G cs)) (fits .0) (λ x y e. fwd done (A .inner x y (inl e))) slots-chained o o′ x y h h′ )
+  node-right o o′ x y h h′ = (
+    λ c. join-mono G p (Seen G n cs (Beside G O p n cs rest)) (Slotwise ρ (Up G cs)) seen-slots
+        (local G p n cs W (Beside G O p n cs rest) (apart G W O p n cs rest A) (beside-clear G W O p n cs rest A) o o′ x y h h′ c),
+    whole G p n cs W (Slotwise ρ (Up G cs)) (fits .0) (λ x y e. fwd done (A .inner x y (inl e))) slots-chained o o′ x y h h′,
+  )
 
 -- all nodes: `chosen` has a relation for each node. At the roots it is what W chains there, and each child's is what its parent's closure
 -- relates on the child's slot
@@ -51,9 +52,9 @@ module _ (G : Grammar) (W : Inst → Inst → Type 0) (chosen : ℕ → ℕ → 
   down-nodes O (grow p cs rest) n A fits hand ex i q ds (inr (inl s)) =
       let here = node-right G W O p n cs rest A fits (chosen n) (λ a b. ex 0 n a b refl) in
       let kids : Exactly cs (suc n) = λ j m a b r.
-          let (to, from) = here (suc j, a) (suc j, b) (m, a) (m, b) (r, refl) (r, refl) in
-          let (back, forth) = hand n p cs (inl (refl, refl, refl)) j m a b r in
-          (λ c. forth (to c), λ h. from (back h)) in
+      let (to, from) = here (suc j, a) (suc j, b) (m, a) (m, b) (r, refl) (r, refl) in
+      let (back, forth) = hand n p cs (inl (refl, refl, refl)) j m a b r in
+      (λ c. forth (to c), λ h. from (back h)) in
       down-nodes (Above G O p n cs rest) cs (suc n) (around-children G W O p n cs rest A) (fits .1) (λ i q ds s. hand i q ds (inr (inl s))) kids i q ds s
   down-nodes O (grow p cs rest) n A fits hand ex i q ds (inr (inr s)) =
       down-nodes (Before G O p n cs rest) rest (suc (n + size cs)) (around-rest G W O p n cs rest A) (fits .2)

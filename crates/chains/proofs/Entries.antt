@@ -111,7 +111,7 @@ module _ (G : Grammar) (L : Lawful G) (U : ℕ → ℕ) where
           let (q′, es, t, hd) = root-kind G ds (G .kids q) (suc i) j m below r in
           let e : G .left (getD (flat f) m 0) ≡ getD (G .kids q) j 0 = kind-at m q′ es (sub-child f 0 i q ds m q′ es s t) ∙ hd .1 in
           let alike = alike-iff G (getD (G .kids q) j 0) (F m) (λ a b. Closure G q (Chosen G q (F i) (kid-codes U i ds)) (suc j, a) (suc j, b))
-              (fall .child i q ds s j m r) (λ a. done) (closure-kept G L q there (Alike G (G .left q) (F i)) (alike-kept G (G .left q) (F i)) (kid-codes U i ds) (suc j)) a b in
+          (fall .child i q ds s j m r) (λ a. done) (closure-kept G L q there (Alike G (G .left q) (F i)) (alike-kept G (G .left q) (F i)) (kid-codes U i ds) (suc j)) a b in
           rw e (after alike (join-through i q ds s (suc j, a) (suc j, b)))
 
       root-alike : (f : Bush) → Kinded G f (k ∷ []) → ChosenUp G f 0 U → (a b : ℕ) → Chain G f 0 (0, a) (0, b) ↔ Alike G (G .left (getD (flat f) 0 0)) (U 0) a b
@@ -153,9 +153,10 @@ module _ (G : Grammar) (L : Lawful G) (U : ℕ → ℕ) where
       plausible-roots nil [] n h in-f = tt
       plausible-roots nil (x ∷ ks) n h in-f = absurd h
       plausible-roots (grow p cs rest) [] n h in-f = absurd h
-      plausible-roots (grow p cs rest) (x ∷ ks) n h in-f =
-          ( rw (← h .0 .1) (node-plausible n p cs (in-f n p cs (inl (refl, refl, refl))))
-          , plausible-roots rest ks (suc (n + size cs)) (h .2) (λ i q ds s. in-f i q ds (inr (inr s))) )
+      plausible-roots (grow p cs rest) (x ∷ ks) n h in-f = (
+        rw (← h .0 .1) (node-plausible n p cs (in-f n p cs (inl (refl, refl, refl)))),
+        plausible-roots rest ks (suc (n + size cs)) (h .2) (λ i q ds s. in-f i q ds (inr (inr s))),
+      )
 
       feasible-below : (g : Bush) (ks : List ℕ) (n : ℕ) → Kinded G g ks → ((i q : ℕ) (ds : Bush) → Sub g n i q ds → Sub f 0 i q ds)
           → ((j m : ℕ) → Root g n j m → Feasible G (getD ks j 0) (F m)) → (i q : ℕ) (ds : Bush) → Sub g n i q ds → Feasible G (G .left q) (F i)
@@ -168,7 +169,7 @@ module _ (G : Grammar) (L : Lawful G) (U : ℕ → ℕ) where
           let below : (i q : ℕ) (ds : Bush) → Sub cs (suc n) i q ds → Sub f 0 i q ds = λ i q ds s. in-f i q ds (inr (inl s)) in
           feasible-below cs (G .kids p) (suc n) (h .1) below
           (λ j m r. down p j (F n) (kid-codes U n cs) (h .0 .0) (root-kids G cs (G .kids p) (suc n) j m (h .1) r) mine
-            (plausible-roots cs (G .kids p) (suc n) (h .1) below) (fall .child n p cs here j m r)) i q ds s
+          (plausible-roots cs (G .kids p) (suc n) (h .1) below) (fall .child n p cs here j m r)) i q ds s
       feasible-below (grow p cs rest) (x ∷ ks) n h in-f tops i q ds (inr (inr s)) =
           feasible-below rest ks (suc (n + size cs)) (h .2) (λ i q ds s. in-f i q ds (inr (inr s))) (λ j m r. tops (suc j) m r) i q ds s
 

@@ -27,10 +27,11 @@ module _ (G : Grammar) (p n : ℕ) (cs : Bush) where
   -- relates on slot 0.
   pub gluing : Lawful G → (k : ℕ) → Kinded G (grow p cs nil) (k ∷ [])
       → (a b : ℕ) → Chain G (grow p cs nil) n (n, a) (n, b) ↔ Closure G p (Slotwise (λ a b. ⊥) (Below G n cs)) (0, a) (0, b)
-  gluing L k kind a b =
-      ( λ c. join-bind G p (Seen G n cs Nowhere) (Slotwise (λ a b. ⊥) (Below G n cs)) nothing-around
-          (local G p n cs (Tree G p n cs) Nowhere (own-or-below G p n cs) (λ x y e. absurd e) (0, a) (0, b) (n, a) (n, b) (refl, refl) (refl, refl)
-          (in-first G p n cs nil {x = (n, a)} {y = (n, b)} (omega arith) c .1))
-      , λ c. from-first G p n cs nil
-          (whole G p n cs (Tree G p n cs) (Slotwise (λ a b. ⊥) (Below G n cs)) (kinded-fits G L (grow p cs nil) (k ∷ []) kind .0) (λ x y e. fwd done (inl e))
-          in-tree (0, a) (0, b) (n, a) (n, b) (refl, refl) (refl, refl) c) )
+  gluing L k kind a b = (
+    λ c. join-bind G p (Seen G n cs Nowhere) (Slotwise (λ a b. ⊥) (Below G n cs)) nothing-around
+        (local G p n cs (Tree G p n cs) Nowhere (own-or-below G p n cs) (λ x y e. absurd e) (0, a) (0, b) (n, a) (n, b) (refl, refl) (refl, refl)
+        (in-first G p n cs nil {x = (n, a)} {y = (n, b)} (omega arith) c .1)),
+    λ c. from-first G p n cs nil
+        (whole G p n cs (Tree G p n cs) (Slotwise (λ a b. ⊥) (Below G n cs)) (kinded-fits G L (grow p cs nil) (k ∷ []) kind .0) (λ x y e. fwd done (inl e))
+        in-tree (0, a) (0, b) (n, a) (n, b) (refl, refl) (refl, refl) c),
+  )

@@ -83,13 +83,15 @@ pub parent : (f : Bush) (n m q : ℕ) (ds : Bush) → Sub f n m q ds
 parent nil n m q ds s = absurd s
 parent (grow p cs rest) n m q ds (inl s) = inl (0, s .0)
 parent (grow p cs rest) n m q ds (inr (inl s)) =
-    elim (parent cs (suc n) m q ds s)
-    [ inl r ↦ inr (n, p, cs, r .0, inl (refl, refl, refl), r .1)
-    | inr r ↦ inr (r .0, r .1, r .2, r .3, inr (inl (r .4)), r .5) ]
+    elim (parent cs (suc n) m q ds s) [
+      | inl r ↦ inr (n, p, cs, r .0, inl (refl, refl, refl), r .1)
+      | inr r ↦ inr (r .0, r .1, r .2, r .3, inr (inl (r .4)), r .5)
+    ]
 parent (grow p cs rest) n m q ds (inr (inr s)) =
-    elim (parent rest (suc (n + size cs)) m q ds s)
-    [ inl r ↦ inl (suc (r .0), r .1)
-    | inr r ↦ inr (r .0, r .1, r .2, r .3, inr (inr (r .4)), r .5) ]
+    elim (parent rest (suc (n + size cs)) m q ds s) [
+      | inl r ↦ inl (suc (r .0), r .1)
+      | inr r ↦ inr (r .0, r .1, r .2, r .3, inr (inr (r .4)), r .5)
+    ]
 
 -- ── the list of roots ──
 pub roots-length : (f : Bush) (n : ℕ) → length (roots f n) ≡ count f

@@ -112,11 +112,11 @@ module _ (G : Grammar) (L : Lawful G) (F : Bush) (ks : List ℕ) (kinded : Kinde
       let before = Then O p n cs rest A here S touch own in
       let faith₁ = node-walked O p n cs rest A here S touch own faith in
       let faith₂ = walk (Above G O p n cs rest) cs (suc n) (around-children G (Edge G F 0) O p n cs rest A) (λ i q ds s. within i q ds (inr (inl s))) before
-          (touch-kids O p n cs rest A here S touch own) (λ j x r h. inr (root-given O p n cs rest A here S touch own j x r h)) faith₁ in
+      (touch-kids O p n cs rest A here S touch own) (λ j x r h. inr (root-given O p n cs rest A here S touch own j x r h)) faith₁ in
       let e₂ : suc n + size cs ≡ suc (n + size cs) = omega arith in
       let faith₃ = walk (Before G O p n cs rest) rest (suc (n + size cs)) (around-rest G (Edge G F 0) O p n cs rest A) (λ i q ds s. within i q ds (inr (inr s)))
-          (λ x. before x ⊎ Fitted G cs (suc n) x) (touch-rest O p n cs rest A here S touch own)
-          (λ j x r h. inl (inl (rooted (suc j) x r (h .0, h .1, inr (inr (h .2)), h .3)))) (rw e₂ at faith₂) in
+      (λ x. before x ⊎ Fitted G cs (suc n) x) (touch-rest O p n cs rest A here S touch own)
+      (λ j x r h. inl (inl (rooted (suc j) x r (h .0, h .1, inr (inr (h .2)), h .3)))) (rw e₂ at faith₂) in
       let e₃ : suc (n + size cs) + size rest ≡ n + suc (size cs + size rest) = omega arith in
       faithful-iff (Edge G F 0) num (λ x. (before x ⊎ Fitted G cs (suc n) x) ⊎ Fitted G rest (suc (n + size cs)) x) (λ x. S x ⊎ Fitted G (grow p cs rest) n x) (next (n + suc (size cs + size rest)))
       (all-in-turn O p n cs rest A here S touch own) (all-at-once O p n cs rest A here S touch own) (rw e₃ at faith₃)

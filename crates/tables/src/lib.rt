@@ -1,0 +1,5 @@
+mod blocks;
+
+pub use blocks::block_size;
+pub use blocks::first_occurrence;
+pub use blocks::occurrences;
