@@ -10,3 +10,4 @@ pub mod StateNumbers
 pub mod StateKept
 pub mod StateTidy
 pub mod State
+pub mod Carried
