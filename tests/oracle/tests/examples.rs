@@ -99,11 +99,20 @@ fn levels_64_and_65() {
     assert_eq!(answer(65), "refused 23 64\n");
 }
 
+/// A tree with so many nodes that have four children, spread over them to stay flat.
+fn spread(fours: usize) -> Vec<u8> {
+    if fours == 0 {
+        return vec![2];
+    }
+    let under = |child: usize| spread((fours - 1 + child) / 4);
+    std::iter::once(1).chain((0..4).flat_map(under)).collect()
+}
+
 #[test]
 fn groups_0_to_300() {
-    let sheet: Vec<u8> = std::iter::once(0).chain((0..75).flat_map(|_| [1, 2, 2, 2])).chain([2]).collect();
-    let answer = groups(&input(&sheet, &FOUR_OR_NONE));
-    let mut numbers: Vec<usize> = answer.lines().skip(2).map(|l| l.rsplit(' ').next().unwrap().parse().unwrap()).collect();
+    let answer = groups(&input(&[vec![0], spread(75)].concat(), &FOUR_OR_NONE));
+    let last = |line: &str| line.rsplit(' ').next().unwrap().parse().unwrap();
+    let mut numbers: Vec<usize> = answer.lines().skip(2).map(last).collect();
     numbers.sort();
     assert!(answer.starts_with("ok 302 301 301\n"));
     assert_eq!(numbers, (0..301).collect::<Vec<_>>());
