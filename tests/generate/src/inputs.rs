@@ -13,15 +13,13 @@ pub fn input(sheet: &[u8], book: &[u8]) -> Vec<u8> {
     [&(sheet.len() as u16).to_le_bytes(), sheet, book].concat()
 }
 
-/// Books and vehicles that fill the program's room, or are one over it.
+/// Books and vehicles that fill the program's room or have 64 levels, or are one over it.
 fn full(chance: &mut Chance, turn: usize) -> Vec<u8> {
-    match turn % 8 {
-        0..=2 => input(&[0], &limits::up_entries(UP_ENTRIES - 1 + turn % 8).bytes()),
-        3..=5 => {
-            let book = limits::down_entries(DOWN_ENTRIES - 4 + turn % 8).bytes();
-            input(&[0], &book)
-        }
-        6 => input(&sheets::apart(NODES), &limits::apart(8).bytes()),
+    match turn % 10 {
+        step @ 0..=2 => input(&[0], &limits::up_entries(UP_ENTRIES - 1 + step).bytes()),
+        step @ 3..=5 => input(&[0], &limits::down_entries(DOWN_ENTRIES - 4 + step).bytes()),
+        step @ 6..=7 => input(&sheets::tower(58 + step, chance.once_in(2)), &limits::apart(8).bytes()),
+        8 => input(&sheets::apart(NODES), &limits::apart(8).bytes()),
         _ => {
             let nodes = *chance.pick(&[NODES + 1, 4096]);
             input(&sheets::apart(nodes), &limits::apart(*chance.pick(&[0, 1, 8])).bytes())

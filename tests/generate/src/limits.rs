@@ -100,7 +100,7 @@ pub fn up_entries(entries: usize) -> Plan {
     plan
 }
 
-/// Exactly so many down entries, from 27 on.
+/// Exactly so many down entries, from 31 on: below that the child is out of reach.
 pub fn down_entries(entries: usize) -> Plan {
     let mut plan = started();
     let child = varied(&mut plan, 3, 5);
