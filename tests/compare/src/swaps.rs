@@ -12,12 +12,12 @@ use oracle::chains::{first_settings, same_sharing};
 use oracle::sheet::{read_sheet, settings_at};
 
 /// An accepted answer of the sheet call, read back from its lines.
-struct Answer {
-    nodes: Vec<u64>,
-    groups: Vec<u64>,
+pub struct Answer {
+    pub nodes: Vec<u64>,
+    pub groups: Vec<u64>,
 }
 
-fn read(answer: &str) -> Option<Answer> {
+pub fn read(answer: &str) -> Option<Answer> {
     let mut lines = answer.lines();
     let numbers = |line: &str| line.split_whitespace().map(|word| word.parse().ok()).collect::<Option<Vec<_>>>();
     lines.next()?.starts_with("ok ").then_some(())?;
@@ -26,13 +26,13 @@ fn read(answer: &str) -> Option<Answer> {
 
 /// What is seen from outside: the ranks of the nodes around the swap, their entries, and the group
 /// numbers of their settings, the node's own included.
-struct Outside {
-    ranks: Vec<u64>,
-    entries: Vec<u64>,
-    groups: Vec<u64>,
+pub struct Outside {
+    pub ranks: Vec<u64>,
+    pub entries: Vec<u64>,
+    pub groups: Vec<u64>,
 }
 
-fn outside(swap: &Swap, sheet: &[u8], end: usize, answer: &Answer) -> Outside {
+pub fn outside(swap: &Swap, sheet: &[u8], end: usize, answer: &Answer) -> Outside {
     let grammar = check_book(&swap.book).expect("a lawful book");
     let nodes = read_sheet(&grammar, sheet).expect("a grown sheet");
     let firsts = first_settings(&grammar, &nodes);
@@ -49,22 +49,24 @@ fn outside(swap: &Swap, sheet: &[u8], end: usize, answer: &Answer) -> Outside {
     seen
 }
 
-fn kept(swap: &Swap, old: &Answer, new: &Answer) -> bool {
+pub fn kept(swap: &Swap, old: &Answer, new: &Answer) -> bool {
     let before = outside(swap, &swap.old, swap.old_end, old);
     let after = outside(swap, &swap.new, swap.new_end, new);
     before.ranks == after.ranks && before.entries == after.entries && same_sharing(&before.groups, &after.groups)
 }
 
-fn sheet_request(swap: &Swap, sheet: &[u8]) -> Vec<u8> {
-    let (nodes, groups) = (vec![9; 3 * sheet.len()], vec![9; 8 * sheet.len()]);
-    number_request(&swap.book, sheet, &swap.tables, &nodes, &groups)
+/// The sheet call for the vehicle before and after.
+pub fn requests(swap: &Swap) -> [Vec<u8>; 2] {
+    [&swap.old, &swap.new].map(|sheet| {
+        let (nodes, groups) = (vec![9; 3 * sheet.len()], vec![9; 8 * sheet.len()]);
+        number_request(&swap.book, sheet, &swap.tables, &nodes, &groups)
+    })
 }
 
 /// So many swaps, both vehicles of each numbered by the program.
 pub fn run(program: &Program, seed: u64, count: u64, tally: &mut Tally) -> Result<(), String> {
     let swaps: Vec<Swap> = (0..count).map(|index| swap(&mut Chance::new(seed ^ 0x7377_6170, index))).collect();
-    let both = |swap: &Swap| [sheet_request(swap, &swap.old), sheet_request(swap, &swap.new)];
-    let requests: Vec<Vec<u8>> = swaps.iter().flat_map(both).collect();
+    let requests: Vec<Vec<u8>> = swaps.iter().flat_map(requests).collect();
     let name = |place: usize| format!("swap {} of seed {seed}", place / 2);
     let answers = compare(program, &requests, name, tally)?;
     for (index, (swap, answers)) in swaps.iter().zip(answers.chunks(2)).enumerate() {

@@ -112,19 +112,22 @@ fn spoil_pairs(chance: &mut Chance, plan: &mut Plan) -> Vec<u8> {
     let place = chance.below(plan.entries.len());
     let entry = plan.entries[place].clone();
     let pairs = &mut plan.entries[place].pairs;
-    if pairs.len() > 1 && chance.once_in(3) {
-        let at = chance.below(pairs.len() - 1);
-        if chance.once_in(2) {
-            pairs.swap(at, at + 1);
-        } else {
-            pairs[at + 1] = pairs[at];
+    pairs.truncate(254);
+    match (chance.below(4), pairs.len()) {
+        (0, 1..) => {
+            let at = chance.below(pairs.len());
+            pairs.insert(at, pairs[at]);
         }
-    } else {
-        let bad = bad_pair(chance, plan, &entry);
-        let pairs = &mut plan.entries[place].pairs;
-        pairs.truncate(254);
-        pairs.push(bad);
-        pairs.sort();
+        (1, 2..) => {
+            let at = chance.below(pairs.len() - 1);
+            pairs.swap(at, at + 1);
+        }
+        _ => {
+            let bad = bad_pair(chance, plan, &entry);
+            let pairs = &mut plan.entries[place].pairs;
+            pairs.push(bad);
+            pairs.sort();
+        }
     }
     plan.bytes()
 }
@@ -164,32 +167,22 @@ fn spoil_left(chance: &mut Chance, plan: &mut Plan) -> Vec<u8> {
     plan.bytes()
 }
 
-/// Two or three faults at once: the order of refusals decides.
-pub fn several(chance: &mut Chance, plan: &Plan) -> Vec<u8> {
+/// Two or more faults at once, so that the order of refusals decides: each bit of `which` is one,
+/// from 7, 8, 6, 5 to one of the trailer's. Pairs are spoilt first, while their occurrences exist.
+pub fn several(chance: &mut Chance, plan: &Plan, which: usize) -> Vec<u8> {
     let mut plan = plan.clone();
-    for _ in 0..chance.between(1, 2) {
-        match chance.below(4) {
-            0 => drop(spoil_kind(chance, &mut plan)),
-            1 => drop(spoil_left(chance, &mut plan)),
-            2 => drop(spoil_children(chance, &mut plan)),
-            _ if sound(&plan) => drop(spoil_pairs(chance, &mut plan)),
-            _ => drop(spoil_kind(chance, &mut plan)),
+    let spoilers = [spoil_pairs, spoil_left, spoil_children, spoil_kind];
+    for (bit, spoil) in spoilers.iter().enumerate() {
+        if which >> bit & 1 == 1 {
+            spoil(chance, &mut plan);
         }
     }
     let mut bytes = plan.bytes();
-    if chance.once_in(3) {
+    if which >> spoilers.len() & 1 == 1 {
         let number = chance.between(2, 4);
         spoil_trailer(chance, &mut bytes, number);
     }
     bytes
-}
-
-/// Its kinds and children exist, so that its occurrences can be listed.
-fn sound(plan: &Plan) -> bool {
-    let known = |kind: &u8| (*kind as usize) < plan.kinds.len();
-    let few = |entry: &Entry| entry.children.len() <= 4;
-    let settings = plan.kinds.iter().all(|kind| kind.settings <= 8);
-    settings && plan.entries.iter().all(|e| few(e) && known(&e.left) && e.children.iter().all(known))
 }
 
 /// Bytes that were a book, or never were one: flips, cuts, counts past the end, noise.

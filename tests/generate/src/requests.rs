@@ -2,7 +2,7 @@
 
 use crate::chance::Chance;
 use crate::plan::Plan;
-use crate::rooms::{enough, garbage, length};
+use crate::rooms::{self, enough, garbage};
 use crate::tables::{built, damaged, renamed, strange, DOWN_ROOM, UP_ROOM};
 use crate::{damage, lawful, limits, sheets};
 use oracle::book::{check_book, Grammar};
@@ -65,6 +65,9 @@ pub(crate) fn limit_book(chance: &mut Chance, turn: usize) -> Vec<u8> {
     plan.bytes()
 }
 
+/// Faults that go together, as bits for `damage::several`: pairs 1, left 2, children 4, kind 8, trailer 16.
+const SEVERAL: [usize; 9] = [5, 3, 6, 9, 12, 10, 17, 15, 31];
+
 fn book_request(chance: &mut Chance, turn: usize) -> Vec<u8> {
     let book = match turn % 6 {
         0 => some_plan(chance).bytes(),
@@ -72,7 +75,7 @@ fn book_request(chance: &mut Chance, turn: usize) -> Vec<u8> {
         2 => damage::noise(chance),
         3 => {
             let plan = some_plan(chance);
-            damage::several(chance, &plan)
+            damage::several(chance, &plan, SEVERAL[turn / 6 % SEVERAL.len()])
         }
         4 => limit_book(chance, turn / 6),
         _ => faulty_book(chance, turn / 6),
@@ -91,21 +94,27 @@ pub(crate) fn fitted(chance: &mut Chance) -> (Vec<u8>, Grammar, Vec<u8>) {
     }
 }
 
+/// Sheets of 64, 65 and 66 levels, and ones that go wrong at level 65 in every way.
+fn high_sheet(chance: &mut Chance, turn: usize) -> Vec<u8> {
+    let side = chance.once_in(2);
+    let levels = *[65, 65, 64, 65, 65, 66].get(turn % 7).unwrap_or(&64);
+    let mut sheet = sheets::tower(levels, side);
+    let last = sheet.pop().expect("a tower has nodes");
+    match turn % 7 {
+        0 => sheet.push(0),
+        1 => sheet.push(*chance.pick(&[5, 64, 255])),
+        3 => (),
+        _ => sheet.push(last),
+    }
+    sheet
+}
+
 fn sheet_request(chance: &mut Chance, turn: usize) -> Vec<u8> {
     let (mut book, grammar, mut sheet) = fitted(chance);
     match turn % 8 {
         0 => (),
         1 => (book, sheet) = (limits::apart(8).bytes(), sheets::apart(chance.between(4095, 4097))),
-        2 => {
-            (book, sheet) = (limits::apart(2).bytes(), sheets::tower(chance.between(63, 66), chance.once_in(2)));
-            if chance.once_in(3) {
-                let at = sheet.len() - 1;
-                sheet[at] = *chance.pick(&[0, 5, 255]);
-            }
-            if chance.once_in(4) {
-                sheet.pop();
-            }
-        }
+        2 => (book, sheet) = (limits::apart(2).bytes(), high_sheet(chance, turn / 8)),
         3 => sheet.truncate(chance.below(2) * chance.below(sheet.len())),
         4 => book = faulty_book(chance, turn / 8),
         5 => sheet = chance.bytes(20),
@@ -118,9 +127,9 @@ fn sheet_request(chance: &mut Chance, turn: usize) -> Vec<u8> {
 fn build_request(chance: &mut Chance, book: &[u8]) -> Vec<u8> {
     let n = check_book(book).map_or(2, |grammar| grammar.kinds.len());
     let (up, down) = built(book).map_or((20, 5 * 44), |tables| (tables.up.len(), tables.down.len()));
-    let short = chance.below(10);
+    let short = chance.below(24);
     let mut room = |place: usize, need: usize, most: usize| {
-        let room = if place == short { length } else { enough };
+        let room = if place == short { rooms::short } else { enough };
         room(chance, need, most)
     };
     let lengths = [
@@ -137,19 +146,27 @@ fn build_request(chance: &mut Chance, book: &[u8]) -> Vec<u8> {
     request(3, &arguments)
 }
 
-/// The sheet call with slices of garbage, at most one of them too short.
-fn number(chance: &mut Chance, book: &[u8], sheet: &[u8], mut tables: Tables) -> Vec<u8> {
+/// The slices of the sheet call that may be made too short, and none of them.
+const NODES: usize = 0;
+const GROUPS: usize = 1;
+const PLAUSIBLE: usize = 2;
+const FEASIBLE: usize = 3;
+const UP: usize = 4;
+const DOWN: usize = 5;
+const ALL_LONG: usize = 6;
+
+/// The sheet call with slices of garbage; the one named by `short` is perhaps too short.
+fn number(chance: &mut Chance, book: &[u8], sheet: &[u8], mut tables: Tables, short: usize) -> Vec<u8> {
     let read = check_book(book).and_then(|grammar| Ok((read_sheet(&grammar, sheet)?, grammar)));
     let (nodes, settings) = read.map_or((4, 9), |(nodes, g)| (nodes.len(), settings(&g, &nodes)));
-    let short = chance.below(12);
     let mut room = |place: usize, need: usize, most: usize| {
-        let room = if place == short { length } else { enough };
+        let room = if place == short { rooms::short } else { enough };
         room(chance, need, most)
     };
-    let (nodes, groups) = (room(0, 3 * nodes, 12_500), room(1, settings, 33_000));
+    let (nodes, groups) = (room(NODES, 3 * nodes, 12_500), room(GROUPS, settings, 33_000));
     let counts = (tables.plausible_counts.len(), tables.feasible_counts.len());
-    let counts = (room(2, counts.0, 64), room(3, counts.1, 64));
-    let (up, down) = (room(4, tables.up.len(), UP_ROOM), room(5, tables.down.len(), DOWN_ROOM));
+    let counts = (room(PLAUSIBLE, counts.0, 64), room(FEASIBLE, counts.1, 64));
+    let (up, down) = (room(UP, tables.up.len(), UP_ROOM), room(DOWN, tables.down.len(), DOWN_ROOM));
     tables.plausible_counts.resize(counts.0, chance.byte());
     tables.feasible_counts.resize(counts.1, chance.byte());
     tables.up.resize(up, chance.byte());
@@ -171,6 +188,13 @@ fn tabled(chance: &mut Chance, strangers: bool) -> (Vec<u8>, Vec<u8>, Tables) {
 
 fn sheet_call(chance: &mut Chance, turn: usize) -> Vec<u8> {
     let (mut book, mut sheet, mut tables) = tabled(chance, turn % 10 < 3);
+    // Where something else is wrong too, the order of refusals decides.
+    let short: &[usize] = match turn % 10 {
+        0..=6 => &[NODES, GROUPS, PLAUSIBLE, FEASIBLE, UP, DOWN],
+        7 => &[PLAUSIBLE, FEASIBLE],
+        _ => &[NODES, GROUPS],
+    };
+    let short = if chance.once_in(5) { *chance.pick(short) } else { ALL_LONG };
     match turn % 10 {
         0 | 1 | 3 | 4 => (),
         5 => renamed(chance, &mut tables),
@@ -186,20 +210,26 @@ fn sheet_call(chance: &mut Chance, turn: usize) -> Vec<u8> {
         }
         _ => damaged(chance, &book, &sheet, &mut tables),
     }
-    number(chance, &book, &sheet, tables)
+    number(chance, &book, &sheet, tables, short)
 }
 
 fn blocks_request(chance: &mut Chance) -> Vec<u8> {
     let strangers = chance.once_in(2);
     let (_, _, mut tables) = tabled(chance, strangers);
     let entries = tables.down.len() / 44;
-    if chance.once_in(3) {
+    if chance.once_in(8) {
         tables.down.truncate(chance.below(tables.down.len() + 1));
     }
-    let far = *chance.pick(&[u64::MAX, u64::MAX / 44, 1 << 63, 418_781_160_401_898_129, 1 << 32]);
-    let entry = if chance.once_in(6) { far } else { chance.below(entries + 1) as u64 };
+    // Entries so far off that times 44, or cut to 32 bits, they would come round to the near ones.
+    let far = *chance.pick(&[1 << 62, 1 << 63, 1 << 32, u64::MAX / 44 + 1]);
+    let past = entries == 0 || chance.once_in(8);
+    let near = if past { entries } else { chance.below(entries) };
+    let entry = near as u64 + if chance.once_in(4) { far } else { 0 };
+    // Labels that stand in the entry, or are the ranks behind them.
     let any = chance.byte();
-    let label = *chance.pick(&[0, 0, 1, 2, 3, 4, 39, 40, 255, any]);
+    let offset = if chance.once_in(2) { chance.below(40) } else { 40 };
+    let there = tables.down.get(44 * near + offset).map_or(0, |&byte| byte);
+    let label = *chance.pick(&[0, 1, 255, any, there, there]);
     request(5, &[&tables.down, &entry.to_le_bytes(), &[label]])
 }
 

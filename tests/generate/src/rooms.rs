@@ -2,13 +2,11 @@
 
 use crate::chance::Chance;
 
-/// The need itself, mostly; sometimes more, sometimes one less or far less.
-pub fn length(chance: &mut Chance, need: usize, most: usize) -> usize {
-    let length = match chance.below(16) {
-        0 => need.saturating_sub(1),
-        1 => chance.below(need + 1),
-        2..=5 => need + chance.between(1, 50),
-        _ => need,
+/// One less than the need, or anything up to the need itself.
+pub fn short(chance: &mut Chance, need: usize, most: usize) -> usize {
+    let length = match chance.below(3) {
+        0 => chance.below(need + 1),
+        _ => need.saturating_sub(1),
     };
     length.min(most)
 }

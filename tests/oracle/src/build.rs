@@ -43,6 +43,9 @@ pub fn build(book: &[u8], lent: &mut Lent) -> Result<(u64, u64), Refusal> {
         Ok((sets, up, down)) => {
             write_sets(&sets, lent);
             write_tables(&grammar, &sets, lent);
+            if wrong("tail-touched") {
+                lent.up[up as usize..].fill(0);
+            }
             Ok((up, down))
         }
         Err(refusal) => {
@@ -63,10 +66,11 @@ fn fitting(grammar: &Grammar, lent: &Lent) -> Result<(Sets, u64, u64), Refusal> 
     let all = grammar.productions.len();
     let up = up_start(grammar, all, &plausible);
     let down = down_start(grammar, all, &plausible, &feasible);
-    if up > lent.up.len() as u64 {
+    let down_over = down > (lent.down.len() / DOWN) as u64;
+    if up > lent.up.len() as u64 && !(wrong("thirteen-first") && down_over) {
         return refuse(12, 0);
     }
-    if down > (lent.down.len() / DOWN) as u64 {
+    if down_over {
         return refuse(13, 0);
     }
     Ok((sets, up, down))

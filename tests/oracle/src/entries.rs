@@ -2,6 +2,7 @@
 //! use the same ones.
 
 use crate::book::{Grammar, Production};
+use crate::faults::wrong;
 
 /// Bytes of a down entry: 40 labels, 4 feasible ranks.
 pub const DOWN: usize = 44;
@@ -18,9 +19,12 @@ fn down_entries(production: &Production, plausible: &[u8], feasible: &[u8]) -> u
 
 /// A choice as a number: child 1's rank counts most, the last child's least.
 pub fn choice(production: &Production, plausible: &[u8], ranks: &[u8]) -> u64 {
-    production.children.iter().zip(ranks).fold(0, |number, (&child, &rank)| {
-        number * plausible[child] as u64 + rank as u64
-    })
+    let mut digits: Vec<(u8, u8)> =
+        production.children.iter().zip(ranks).map(|(&child, &rank)| (plausible[child], rank)).collect();
+    if wrong("weights-exchanged") {
+        digits.reverse();
+    }
+    digits.iter().fold(0, |number, &(count, rank)| number * count as u64 + rank as u64)
 }
 
 /// The number of up entries of the productions before `production`; of all, when it is P.

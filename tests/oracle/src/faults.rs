@@ -29,6 +29,19 @@ pub const NAMES: &[&str] = &[
     "ranks-as-labels",
     "label-255",
     "sheet-over-4096-is-30",
+    "sixty-five-members",
+    "stop-at-empty",
+    "weights-exchanged",
+    "tail-touched",
+    "thirteen-first",
+    "counts-past-n",
+    "root-rank-unchecked",
+    "across-instances",
+    "entry-wraps",
+    "children-reversed",
+    "room-for-4096-nodes",
+    "nine-after-sheet",
+    "room-after-tables",
 ];
 
 #[cfg(feature = "faults")]

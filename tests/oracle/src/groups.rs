@@ -41,7 +41,7 @@ fn run(input: &[u8]) -> Result<String, Refusal> {
     let Lent { plausible_counts, feasible_counts, up, down, .. } = lent;
     let tables = Tables { plausible_counts, feasible_counts, up, down };
     let mut nodes = vec![0; 3 * NODES];
-    let mut groups = vec![0; 8 * NODES];
+    let mut groups = vec![0; if wrong("room-for-4096-nodes") { 4096 } else { 8 * NODES }];
     let counts = number_sheet(book, sheet, &tables, &mut nodes, &mut groups)?;
     Ok(print(book, sheet, counts, &nodes, &groups))
 }

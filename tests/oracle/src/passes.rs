@@ -10,7 +10,13 @@ use std::collections::HashSet;
 use std::hash::{BuildHasherDefault, Hasher};
 
 /// The most members a set may have.
-const MOST: usize = 64;
+fn most() -> usize {
+    if wrong("sixty-five-members") {
+        65
+    } else {
+        64
+    }
+}
 
 /// Plausible and feasible groupings of every kind, in rising code order.
 #[derive(Debug, PartialEq, Eq)]
@@ -108,10 +114,13 @@ fn upward(grammar: &Grammar) -> Result<Vec<Vec<Code>>, Refusal> {
     loop {
         let mut added = false;
         for (production, met) in grammar.productions.iter().zip(&mut met) {
+            if wrong("stop-at-empty") && production.children.iter().any(|&child| sets[child].is_empty()) {
+                break;
+            }
             for code in fresh(grammar, production, &sets, met) {
                 added |= add(&mut sets[production.left], code);
             }
-            if sets[production.left].len() > MOST {
+            if sets[production.left].len() > most() {
                 return refuse(10, 0);
             }
         }
@@ -176,7 +185,7 @@ fn downward(grammar: &Grammar, plausible: &[Vec<Code>]) -> Result<Vec<Vec<Code>>
             for code in results {
                 added |= add(&mut sets[view.child], code);
             }
-            if sets[view.child].len() > MOST {
+            if sets[view.child].len() > most() {
                 return refuse(11, 0);
             }
         }

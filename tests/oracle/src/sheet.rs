@@ -37,7 +37,11 @@ pub fn read_sheet(grammar: &Grammar, sheet: &[u8]) -> Result<Vec<Node>, Refusal>
         if let Some(parent) = want.parent {
             nodes[parent].children.push(position);
         }
-        for &kind in production.children.iter().rev() {
+        let mut children = production.children.clone();
+        if wrong("children-reversed") {
+            children.reverse();
+        }
+        for &kind in children.iter().rev() {
             due.push(Due { kind, level: want.level + 1, parent: Some(position) });
         }
     }

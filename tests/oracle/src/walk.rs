@@ -33,6 +33,9 @@ pub fn number_sheet(
 ) -> Result<(usize, usize, usize), Refusal> {
     let grammar = check_book(book)?;
     let n = grammar.kinds.len();
+    if wrong("nine-after-sheet") {
+        read_sheet(&grammar, sheet)?;
+    }
     if tables.plausible_counts.len() < n || tables.feasible_counts.len() < n {
         return refuse(9, 0);
     }
@@ -40,14 +43,18 @@ pub fn number_sheet(
     let settings = settings(&grammar, &nodes);
     let per_node = if wrong("two-places") { 2 } else { 3 };
     if lent_nodes.len() < per_node * nodes.len() || lent_groups.len() < settings {
+        if wrong("room-after-tables") {
+            choose_upward(&grammar, &nodes, tables)?;
+        }
         return refuse(24, 0);
     }
     if wrong("early-writes") {
         lent_groups[..settings].fill(0);
     }
     let most = if wrong("count-65") { 65 } else { 64 };
-    let counts = tables.plausible_counts[..n].iter().chain(&tables.feasible_counts[..n]);
-    if counts.into_iter().any(|&count| count > most) {
+    let read = if wrong("counts-past-n") { usize::MAX } else { n };
+    let mut counts = tables.plausible_counts.iter().take(read).chain(tables.feasible_counts.iter().take(read));
+    if counts.any(|&count| count > most) {
         return refuse(25, 0);
     }
     let plausible = choose_upward(&grammar, &nodes, tables)?;
@@ -95,7 +102,7 @@ fn choose_downward(
     plausible: &[u8],
 ) -> Result<Vec<Chosen>, Refusal> {
     let counts = &tables.feasible_counts;
-    if plausible[0] >= counts[grammar.start] {
+    if plausible[0] >= counts[grammar.start] && !wrong("root-rank-unchecked") {
         return refuse(25, 0);
     }
     let mut feasible = vec![0; nodes.len()];
@@ -135,11 +142,15 @@ fn number_groups(
 ) -> (Vec<Vec<usize>>, usize) {
     let mut numbers: Vec<Vec<usize>> = vec![Vec::new(); nodes.len()];
     let mut next = 0;
+    let mut before = Vec::new();
     for (position, node) in nodes.iter().enumerate() {
         let labels = &tables.down[chosen[position].entry as usize * DOWN..][..40];
         // Label and number of the occurrences of this instance that have their number.
         let own = numbers[position].iter().enumerate();
         let mut earlier: Vec<(u8, usize)> = own.map(|(setting, &number)| (labels[setting], number)).collect();
+        if wrong("across-instances") {
+            earlier.extend(&before);
+        }
         let slots = std::iter::once(&position).chain(&node.children).enumerate();
         for (slot, &at) in slots.skip(if position == 0 { 0 } else { 1 }) {
             for setting in 0..settings_at(grammar, &nodes[at]) {
@@ -152,6 +163,7 @@ fn number_groups(
                 numbers[at].push(if wrong("modulo-256") { number % 256 } else { number });
             }
         }
+        before = earlier;
     }
     (numbers, next)
 }
