@@ -3,3 +3,4 @@ pub mod StateNumbers
 pub mod StateKept
 pub mod StateTidy
 pub mod State
+pub mod StateBase
