@@ -4,3 +4,4 @@ pub mod StateKept
 pub mod StateTidy
 pub mod State
 pub mod StateBase
+pub mod StateWalk
