@@ -11,3 +11,5 @@ pub mod StateKept
 pub mod StateTidy
 pub mod State
 pub mod Carried
+pub mod StateBase
+pub mod StateWalk
