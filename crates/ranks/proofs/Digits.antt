@@ -1,5 +1,5 @@
 -- A number r * m + t of a digit r that counts most and a rest t below m.
-use mathlib.Core.Path.{_≡_, refl, sym, ap, _∙_}
+use mathlib.Core.Path.{_≡_, sym, ap, _∙_}
 use Prim.Native.Nat.{ℕ, zero, suc, _+_, _*_, _/_, _%_, _≤_, _<_}
 use native.Mathlib.Nat.{mod-lt, mod-eq-of-lt, div-eq-of-lt, add-zero, mul-comm, mul-le-mul-right, mul-add-div-right, mul-add-mod-self-right, div-add-mod', div-lt-iff-lt-mul}
 use native.Mathlib.Omega.{arith}

@@ -1,5 +1,5 @@
 -- Entry numbers: each production and choice of ranks has its own, and every number below the total is one's.
-use mathlib.Core.Path.{_≡_, refl, sym, ap, ap₂, _∙_}
+use mathlib.Core.Path.{_≡_, refl, ap, ap₂, _∙_}
 use mathlib.Core.List.{List, [], _∷_}
 use Prim.Native.Nat.{ℕ, zero, suc, _+_, _*_, _^_, _≤_, _<_}
 use native.Mathlib.Nat.{mul-comm, mul-le-mul, pow-zero, pow-suc}
@@ -8,8 +8,8 @@ use lib.ListN.{length, getD}
 use Rattle.chains.specs.Grammar.{Grammar}
 use Rattle.chains.specs.Grouping.{Members}
 use Rattle.ranks.specs.Entries.{choices, choice, up-start, up-entry, down-start, down-entry}
-use Rattle.ranks.proofs.Digits.{digit-below, digit-once, Digits, digits-of}
-use Rattle.ranks.proofs.Runs.{starts, InRun, starts-after, starts-few, run-below, run-once, run-of}
+use Rattle.ranks.proofs.Digits.{digit-below, digit-once, digits-of}
+use Rattle.ranks.proofs.Runs.{starts, starts-after, starts-few, run-once, run-of}
 
 -- ranks rs, one for each of the kinds ks, each below its kind's count
 abbrev pub Ranks : List ℕ → List ℕ → List ℕ → Type 0
