@@ -10,6 +10,7 @@ pub mod StateNumbers
 pub mod StateKept
 pub mod StateTidy
 pub mod State
+pub mod SetMembers
 pub mod Carried
 pub mod StateBase
 pub mod StateWalk
