@@ -5,3 +5,4 @@ pub mod StateTidy
 pub mod State
 pub mod StateBase
 pub mod StateWalk
+pub mod StateEntry
