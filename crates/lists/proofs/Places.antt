@@ -1,5 +1,5 @@
 -- Members of a list by their places, and the places of a rising list's members.
-use mathlib.Core.Path.{_≡_, refl, sym, ap, _∙_}
+use mathlib.Core.Path.{_≡_, refl, sym, ap₂}
 use mathlib.Core.Logic.{_⊎_, inl, inr, ⊎-elim}
 use mathlib.Core.List.{List, [], _∷_, List·Memᴰ, List·Memᴰ·head, List·Memᴰ·tail, List·Memᴰ·cases-cons, List·Memᴰ·not-nil}
 use Prim.Native.Nat.{ℕ, zero, suc, _<_}
@@ -7,7 +7,7 @@ use native.Mathlib.Omega.{arith}
 use lib.ListN.{length, getD}
 use Rattle.lists.specs.Rising.{Rising, none, single, step}
 use Rattle.lists.proofs.Order.{by-order}
-use Rattle.lists.proofs.Rising.{least}
+use Rattle.lists.proofs.Rising.{least, rising-fewer}
 
 -- what stands at a place is a member
 pub member-at : (l : List ℕ) (i : ℕ) → i < length l → List·Memᴰ (getD l i 0) l
@@ -45,3 +45,27 @@ place-once l i j r h k e =
     by-order (i ≡ j) i j (λ q. q)
     (λ q. let z = rising-at l i j r q k in absurd (omega arith))
     (λ q. let z = rising-at l j i r q h in absurd (omega arith))
+
+-- what is in a rising list with the head b, and not b, is in its tail
+past-head : {b y : ℕ} {m : List ℕ} → (y ≡ b → ⊥) → List·Memᴰ y (b ∷ m) → List·Memᴰ y m
+past-head n k = ⊎-elim (λ e. absurd (n e)) (λ j. j) (List·Memᴰ·cases-cons k)
+
+-- a rising list's members are not below its head
+not-below : (b y : ℕ) (m : List ℕ) → Rising (b ∷ m) → List·Memᴰ y (b ∷ m) → y < b → ⊥
+not-below b y m r k h = ⊎-elim (λ e. omega arith) (λ j. let l = least b m r j in omega arith) (List·Memᴰ·cases-cons k)
+
+-- THEOREM: a rising list whose members all stand in another of its length is that one
+pub rising-whole : (l m : List ℕ) → Rising l → Rising m → ((y : ℕ) → List·Memᴰ y l → List·Memᴰ y m) → length l ≡ length m → l ≡ m
+rising-whole [] [] r q f e = refl
+rising-whole [] (b ∷ m) r q f e = absurd (omega arith)
+rising-whole (a ∷ l) [] r q f e = absurd (omega arith)
+rising-whole (a ∷ l) (b ∷ m) r q f e =
+    by-order ((a ∷ l) ≡ (b ∷ m)) a b
+    (λ h.
+    let later : (y : ℕ) → List·Memᴰ y l → y ≡ b → ⊥ = λ y k z. let g = least a l r k in omega arith in
+    ap₂ _∷_ h (rising-whole l m (rest-rises r) (rest-rises q) (λ y k. past-head (later y k) (f y (List·Memᴰ·tail k))) (omega arith)))
+    (λ h. absurd (not-below b a m q (f a (List·Memᴰ·head refl)) h))
+    (λ h.
+    let later : (y : ℕ) → List·Memᴰ y (a ∷ l) → y ≡ b → ⊥ = λ y k z. not-below a y l r k (omega arith) in
+    let i = rising-fewer (a ∷ l) m r (rest-rises q) (λ y k. past-head (later y k) (f y k)) in
+    absurd (omega arith))

@@ -6,3 +6,9 @@ pub mod State
 pub mod StateBase
 pub mod StateWalk
 pub mod StateEntry
+pub mod Members
+pub mod Cleared
+pub mod Memory
+pub mod Holds
+pub mod Entries
+pub mod Promise
