@@ -14,3 +14,10 @@ pub mod SetMembers
 pub mod Carried
 pub mod StateBase
 pub mod StateWalk
+pub mod StateEntry
+pub mod Members
+pub mod Cleared
+pub mod Memory
+pub mod Holds
+pub mod Entries
+pub mod Promise
