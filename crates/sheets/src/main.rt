@@ -85,17 +85,19 @@ fn leaf_or_two(i: usize) -> u8 {
     if is_leaf(i) { 2 } else { 3 }
 }
 
-fn draw(sheet: &mut [u8; 4096]) {
+// The start over that tree: 4,096 nodes.
+fn drawn() -> [u8; 4096] {
+    let mut sheet = [0u8; 4096];
     let mut i = 1;
     while i < 4096 {
         sheet[i] = leaf_or_two(i - 1);
         i += 1;
     }
+    sheet
 }
 
 fn many_nodes(book: &[u8]) {
-    let mut sheet = [0u8; 4096];
-    draw(&mut sheet);
+    let sheet = drawn();
     show(b"4,096 bytes", book, &sheet);
     let more = [0u8; 4097];
     show(b"4,097 bytes", book, &more);
