@@ -2,7 +2,7 @@
 
 use crate::book::{check_book, Grammar};
 use crate::entries::{choice, choices, down_start, up_start, DOWN};
-use crate::faults::wrong;
+use crate::faults::{limit, wrong};
 use crate::refusal::{refuse, Refusal};
 use crate::sheet::{read_sheet, settings, settings_at, Node};
 
@@ -51,10 +51,10 @@ pub fn number_sheet(
     if wrong("early-writes") {
         lent_groups[..settings].fill(0);
     }
-    let most = if wrong("count-65") { 65 } else { 64 };
+    let most = limit("count", 64);
     let read = if wrong("counts-past-n") { usize::MAX } else { n };
     let mut counts = tables.plausible_counts.iter().take(read).chain(tables.feasible_counts.iter().take(read));
-    if counts.any(|&count| count > most) {
+    if counts.any(|&count| count as usize > most) {
         return refuse(25, 0);
     }
     let plausible = choose_upward(&grammar, &nodes, tables)?;
