@@ -79,9 +79,7 @@ fn bad_kind(kind: &[u8], is_start: bool) -> bool {
 }
 
 fn bad_kinds(entry: &Entry, kinds: usize, start: usize) -> bool {
-    let child_is_bad = |&child: &u8| {
-        child as usize >= kinds || (child as usize == start && !wrong("start-as-child"))
-    };
+    let child_is_bad = |&child: &u8| child as usize >= kinds || (child as usize == start && !wrong("start-as-child"));
     let many = entry.children.len() > limit("children", 4);
     entry.left as usize >= kinds || many || entry.children.iter().any(child_is_bad)
 }
@@ -103,9 +101,7 @@ fn may_be_set(entry: &Entry, kinds: &[u8], to: u8) -> bool {
 
 fn bad_pairs(entry: &Entry, kinds: &[u8]) -> bool {
     let pairs: Vec<(u8, u8)> = entry.pairs.chunks(2).map(|pair| (pair[0], pair[1])).collect();
-    let lawful = |&(to, from): &(u8, u8)| {
-        may_be_set(entry, kinds, to) && kind_of(entry, kinds, from).is_some()
-    };
+    let lawful = |&(to, from): &(u8, u8)| may_be_set(entry, kinds, to) && kind_of(entry, kinds, from).is_some();
     let rises = |two: &[(u8, u8)]| two[0] < two[1] || (wrong("equal-pairs") && two[0] == two[1]);
     !pairs.iter().all(lawful) || !pairs.windows(2).all(rises)
 }

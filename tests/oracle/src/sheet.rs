@@ -48,9 +48,7 @@ pub fn read_sheet(grammar: &Grammar, sheet: &[u8]) -> Result<Vec<Node>, Refusal>
     match sheet.get(nodes.len()) {
         None => Ok(nodes),
         Some(_) if wrong("leftover") => Ok(nodes),
-        Some(&byte) if byte as usize >= grammar.productions.len() && !wrong("leftover-22") => {
-            refuse(21, nodes.len())
-        }
+        Some(&byte) if byte as usize >= grammar.productions.len() && !wrong("leftover-22") => refuse(21, nodes.len()),
         Some(_) => refuse(22, nodes.len()),
     }
 }
