@@ -166,8 +166,8 @@ module _ (G : Grammar) (p : ℕ) (R : Occ → Occ → Type 0) where
   }
 
   -- THEOREM: labels for one R are one list
-  pub labelled-once : {l m : List ℕ} → Labelled G p R l → Labelled G p R m → l ≡ m
-  labelled-once {l} {m} a b = labels-once l m gaps (a .first) (b .first) groups
+  pub labelled-once : (l m : List ℕ) → Labelled G p R l → Labelled G p R m → l ≡ m
+  labelled-once l m a b = labels-once l m gaps (a .first) (b .first) groups
     where
       gap-to : {u v : List ℕ} → Labelled G p R u → Labelled G p R v → (o : ℕ) → o < labels → getD u o none ≡ none → getD v o none ≡ none
       gap-to {u} {v} c d o h e = elim (exists-decided G p (occ o)) [ yes x ↦ absurd (let z = c .present o h x in omega arith) | no n ↦ d .absent o h n ]
