@@ -1,7 +1,8 @@
-mod labels;
+// The build: plausible and feasible sets, and the up and down tables over them. Also the blocks of a down entry as sets.
 mod blocks;
+mod labels;
+mod sets;
 
 pub use blocks::block_size;
 pub use blocks::first_occurrence;
 pub use blocks::occurrences;
-mod sets;
