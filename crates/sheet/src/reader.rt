@@ -30,7 +30,8 @@ fn unfit(number: u8, at: usize) -> Found
     }
 }
 
-// At one position 21 is sought first, then 22, then 23: so a byte at level 65 is still looked at.
+// What stands at `at`, where a node of the kind is due, with so many levels left.
+// At one position 21 is sought first, then 22, then 23: a byte at level 65 is still looked at.
 fn node_at(
     book: &[u8],
     places: &[usize; book::limits::MAX_PRODUCTIONS as usize],
@@ -80,15 +81,8 @@ pub fn subtree(
             let mut sum = settings + word(book::settings(book, kind));
             let mut j = 0;
             while j < kids {
-                match subtree(
-                    book,
-                    places,
-                    sheet,
-                    next,
-                    book::kid(book, entry, j),
-                    levels - 1,
-                    sum,
-                ) {
+                let due = book::kid(book, entry, j);
+                match subtree(book, places, sheet, next, due, levels - 1, sum) {
                     Walk::Next { at, settings } => {
                         next = at;
                         sum = settings;

@@ -33,10 +33,10 @@ enum-known-at : tie.Need-enum-known-at
 enum-known-at c = search needs
 
 ending-requires : tie.Need-ending-requires
-ending-requires c κs = walk-finished (c .before .before .before .before .before .before .before .before .before .before .before .pre) (omega arith) (omega arith) (c .before .before .before .before .root-kind .ensures) (c .before .before .before .subtree .ensures) (c .before .at .given .1)
+ending-requires c κs = walk-finished (c .before .before .before .before .before .before .before .before .before .before .before .pre) (omega arith) (omega arith) (c .before .before .before .before .before .root-kind .ensures) (c .before .before .before .subtree .ensures) (c .before .at .given .1)
 
 returns-3 : tie.Need-returns-3
-returns-3 c = walk-refused (c .before .before .before .before .before .before .before .before .before .before .before .pre) (omega arith) (omega arith) (c .before .before .before .before .root-kind .ensures) (c .before .before .before .subtree .ensures) (c .before .number .given .1)
+returns-3 c = walk-refused (c .before .before .before .before .before .before .before .before .before .before .before .pre) (omega arith) (omega arith) (c .before .before .before .before .before .root-kind .ensures) (c .before .before .before .subtree .ensures) (c .before .number .given .1)
 
 returns-4 : tie.Need-returns-4
 returns-4 c = search needs
