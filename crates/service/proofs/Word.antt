@@ -3,7 +3,6 @@ use mathlib.Core.Path.{_≡_, refl, sym, ap, subst, _∙_}
 use mathlib.Core.List.{List, [], _∷_}
 use Prim.Native.Nat.{ℕ, _+_, _*_, _/_, _%_, _<_}
 use native.Mathlib.Omega.{arith}
-use lib.ListN.{length}
 use Rattle.lists.specs.Refusals.{Said, accepted, refused}
 use Rattle.lists.proofs.Refusals.{due-once}
 use Rattle.book.specs.Format.{kinds, prods}
@@ -11,7 +10,7 @@ use Rattle.book.specs.Refusals as book
 use Rattle.book.proofs.Once.{rows-orderly}
 use Rattle.sheet.specs.Refusals as sheet
 use Rattle.sheet.proofs.Once as sheet-once
-use Rattle.sheet.proofs.Refusals.{book-low, fault-high, Row, books, lengths, reads, row}
+use Rattle.sheet.proofs.Refusals.{fault-high, Row, books, lengths, reads, row}
 use Rattle.service.specs.Word.{word, Narrow, Spoken}
 
 -- ── a word is made ──

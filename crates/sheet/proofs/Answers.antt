@@ -1,36 +1,33 @@
 -- From the reader's outcome to the answer that is due.
 use mathlib.Core.Path.{_≡_, refl, sym, ap, ap₂, subst, _∙_}
-use mathlib.Core.Logic.{_⊎_, inl, inr}
+use mathlib.Core.Logic.{_⊎_}
 use mathlib.Core.List.{List, [], _∷_}
-use Prim.Native.Nat.{ℕ, suc, _+_, _≤_, _<_}
+use Prim.Native.Nat.{ℕ, _≤_, _<_}
 use native.Mathlib.Omega.{arith}
 use lib.ListN.{length, getD, take}
 use lib.Seq.{take-length}
-use Rattle.lists.specs.Refusals.{accepted, refused}
+use Rattle.lists.specs.Refusals.{refused}
 use Rattle.chains.specs.Limits.{max-nodes, max-levels}
-use Rattle.book.specs.Format.{grammar, kinds, prods, start}
+use Rattle.book.specs.Format.{grammar, start}
 use Rattle.book.specs.Reading.{told}
 use Rattle.book.specs.Refusals.{BookDue}
 use Rattle.book.specs.Answer.{said as book-said}
-use Rattle.book.proofs.Accepted.{told-prods, accepted-book}
-use Rattle.book.proofs.Accepted as accepted-books
+use Rattle.book.proofs.Accepted.{told-prods}
 use Rattle.book.specs.declared.Checked as book
 use Rattle.book.specs.declared.Checked.the-variants as book-answer
 use Rattle.sheet.specs.Answer.{said}
-use Rattle.sheet.specs.Reading.{Node, Read, begun, settings-of}
+use Rattle.sheet.specs.Reading.{Read, begun, settings-of}
 use Rattle.sheet.specs.Refusals.{SheetDue}
 use Rattle.sheet.specs.Stops.{Stop}
-use Rattle.sheet.specs.Walk.{Sound, Standing, Past, Walked, Finished}
+use Rattle.sheet.specs.Trees.{Sound}
+use Rattle.sheet.specs.Walk.{Standing, Past, Walked, Finished}
 use Rattle.sheet.specs.declared.SheetChecked.{SheetChecked}
 use Rattle.sheet.specs.declared.SheetChecked.the-variants.{Accepted, Refused}
 use Rattle.sheet.specs.declared.reader.Walk.{Walk}
 use Rattle.sheet.specs.declared.reader.Walk.the-variants as walk
+use Rattle.sheet.proofs.Accepted.{book-accepted}
 use Rattle.sheet.proofs.Refusals.{book-refused, length-refused, stop-refused, read-accepted}
 use Rattle.sheet.proofs.Stops.{stop-unknown, stop-left}
-
--- a book that no row refuses
-pub accepted-of : (b : List ℕ) → Sound b → accepted-books.Accepted b
-accepted-of b sound = accepted-book b (kinds b) (prods b) (refl, sound) .0
 
 -- an answer that is a refusal
 answered : (b l : List ℕ) {r : SheetChecked} {n p : ℕ} → r ≡ Refused n p → SheetDue b l (refused n p) → SheetDue b l (said r)
@@ -60,7 +57,7 @@ module _ {b l : List ℕ} {i s : ℕ} (h : Finished b l i s) where
 -- ── the tree from its root ──
 pub first-standing : (b l : List ℕ) → Sound b → length l ≤ max-nodes → Standing b l 0 0
 unfolding settings-of
-first-standing b l sound few = record { position = record { book = accepted-of b sound; few-nodes = few; within = omega arith }; sum = refl; low = omega arith }
+first-standing b l sound few = record { position = record { book = book-accepted b sound; few-nodes = few; within = omega arith }; sum = refl; low = omega arith }
 
 module _ {b l : List ℕ} {k : ℕ} {r : Walk} (sound : Sound b) (some : 0 < length l) (few : length l ≤ max-nodes)
     (root : k ≡ start b) (w : Walked b l 0 k max-levels r) where

@@ -18,7 +18,7 @@ use Rattle.sheet.specs.declared.reader.Found.the-variants.{Entry, Unfit}
 use Rattle.sheet.specs.declared.reader.Walk.{Walk}
 use Rattle.sheet.specs.declared.reader.Walk.the-variants as walk
 use Rattle.sheet.proofs.Reading.{settings-next}
-use Rattle.sheet.proofs.Stops.{stop-unknown, stop-end, stop-kind, stop-left, stop-deep}
+use Rattle.sheet.proofs.Stops.{stop-unknown, stop-end, stop-kind, stop-deep}
 
 -- the entry's place, by the index
 pub indexed : {b l places : List ℕ} {i p : ℕ} → Position b l i → Index b places → p ≡ getD l i 0 → p < told b 2 → getD places p 0 ≡ entry b (getD l i 0)

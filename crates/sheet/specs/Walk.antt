@@ -6,18 +6,14 @@ use lib.ListN.{length, getD, take}
 use Rattle.chains.specs.Limits.{max-settings, max-nodes, max-levels}
 use Rattle.chains.specs.Grammar.{Heads}
 use Rattle.book.specs.Format.{grammar, entry}
-use Rattle.book.specs.Refusals as book
 use Rattle.book.proofs.Accepted.{Accepted}
 use Rattle.sheet.specs.Reading.{Node, Read, settings-of}
 use Rattle.sheet.specs.Stops.{Stop}
+use Rattle.sheet.specs.Trees.{Sound}
 use Rattle.sheet.specs.declared.reader.Found.{Found}
 use Rattle.sheet.specs.declared.reader.Found.the-variants.{Entry, Unfit}
 use Rattle.sheet.specs.declared.reader.Walk.{Walk}
 use Rattle.sheet.specs.declared.reader.Walk.the-variants as walk
-
--- no row of the book's table applies
-abbrev pub Sound : List ℕ → Type 0
-Sound b = (f : ℕ × ℕ) → book.Applies b (f .0) (f .1) → ⊥
 
 -- a position in a sheet of lawful length, or its end
 pub record Position (b l : List ℕ) (i : ℕ) : Type 0 where
