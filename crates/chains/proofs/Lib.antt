@@ -28,3 +28,5 @@ pub mod Occurrences
 pub mod Walk
 pub mod Alike
 pub mod Entries
+pub mod Moved
+pub mod Holes
