@@ -128,7 +128,7 @@ state-joins l (e ∷ es) (hp, hq, h) i =
     let g : ℕ → ℕ = joinAtF (λ i. getD l i 255) (e .0) (e .1) in
     let one : (i : ℕ) → getD (joinAt l (e .0) (e .1)) i 255 ≡ joinAtF (λ i. getD l i 255) (e .0) (e .1) i = joined-one l (e .0) (e .1) hp hq in
     let w : Ends (λ i. getD (joinAt l (e .0) (e .1)) i 255 < 255) es =
-      ends-map (λ i. getD l i 255 < 255) (λ i. getD (joinAt l (e .0) (e .1)) i 255 < 255) (λ i k. rw (one i) (swap-labelled (λ i. getD l i 255) (e .0) (e .1) hp hq i k)) es h in
+    ends-map (λ i. getD l i 255 < 255) (λ i. getD (joinAt l (e .0) (e .1)) i 255 < 255) (λ i k. rw (one i) (swap-labelled (λ i. getD l i 255) (e .0) (e .1) hp hq i k)) es h in
     state-joins (joinAt l (e .0) (e .1)) es w i
     ∙ joinsF-agree (λ i. Unit {0}) es (λ i. getD (joinAt l (e .0) (e .1)) i 255) g (λ i u. one i) (ends-map (λ i. getD l i 255 < 255) (λ i. Unit {0}) (λ i k. tt) es h) i tt
 
@@ -179,9 +179,10 @@ state-tied l es h o q = (bind forth, bind aback)
     labels-tied : (i j : ℕ) → Eqv (SameLabel (λ i. getD (joins l es) i 255)) i j ↔ Eqv (λ i j. SameLabel (λ i. getD l i 255) i j ⊎ Named es i j) i j
     labels-tied i j =
         let t = shown-joins es (λ i. getD l i 255) h i j in
-        let at = state-joins l es h in
-        ( λ c. t .0 (more (λ i j s. subst₂ (λ a b. (a < 255) × (b < 255) × (a ≡ b)) (at i) (at j) s) c)
-        , λ c. more (λ i j s. subst₂ (λ a b. (a < 255) × (b < 255) × (a ≡ b)) (sym (at i)) (sym (at j)) s) (t .1 c) )
+        let at = state-joins l es h in (
+          λ c. t .0 (more (λ i j s. subst₂ (λ a b. (a < 255) × (b < 255) × (a ≡ b)) (at i) (at j) s) c),
+          λ c. more (λ i j s. subst₂ (λ a b. (a < 255) × (b < 255) × (a ≡ b)) (sym (at i)) (sym (at j)) s) (t .1 c),
+        )
 
     apart : (o q : Occ) → ByNumber (λ i j. SameLabel (λ i. getD l i 255) i j ⊎ Named es i j) o q → Shown l o q ⊎ ByNumber (Named es) o q
     apart o q (ho, hq, inl s) = inl (ho, hq, s)
