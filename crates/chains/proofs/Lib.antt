@@ -30,3 +30,4 @@ pub mod Alike
 pub mod Entries
 pub mod Moved
 pub mod Holes
+pub mod Replace
