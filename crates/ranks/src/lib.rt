@@ -9,11 +9,11 @@ ghost use Rattle.ranks.specs.Reads.{up-said, down-said, numbers, places,
 // The children of a production, and a down entry: a label for each occurrence, then a rank for each child.
 pub const KIDS: usize = 4;
 
-const LABELS: usize = 40;
+pub const LABELS: usize = 40;
 
-const ENTRY: usize = 44;
+pub const ENTRY: usize = 44;
 // The absence of a label or a rank.
-const NONE: u8 = 255;
+pub const NONE: u8 = 255;
 
 pub struct Plausible(pub u8);
 

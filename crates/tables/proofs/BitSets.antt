@@ -47,7 +47,7 @@ bits-once : (n s t : ℕ) → s < 2 ^ n → t < 2 ^ n → ((o : ℕ) → o < n �
 bits-once zero s t hs ht f = omega arith
 bits-once (suc n) s t hs ht f =
     let h : s / 2 ≡ t / 2 = bits-once n (s / 2) (t / 2) (omega (arith, pow-suc 2 n)) (omega (arith, pow-suc 2 n))
-            (λ o l. sym (bit-later s o) ∙ f (suc o) (omega arith) ∙ bit-later t o) in
+    (λ o l. sym (bit-later s o) ∙ f (suc o) (omega arith) ∙ bit-later t o) in
     let z : s % 2 ≡ t % 2 = sym (bit-first s) ∙ f 0 (omega arith) ∙ bit-first t in
     omega arith
 
@@ -92,6 +92,7 @@ marked-more {P} {n} {s} m b l h w =
   where
     top : In (b * 2 ^ n + s) n ↔ P n
     top = (λ e. w .0 (sym (bit-top b n s h (m .small)) ∙ e), λ p. bit-top b n s h (m .small) ∙ w .1 p)
+
     go : (o : ℕ) → o < suc n → Dec (o < n) → In (b * 2 ^ n + s) o ↔ P o
     go o k (yes c) = (λ e. m .exactly o c .0 (sym (bit-below b n s o c) ∙ e), λ p. bit-below b n s o c ∙ m .exactly o c .1 p)
     go o k (no c) = let e : o ≡ n = omega arith in rw e top
@@ -124,6 +125,7 @@ members-to (suc n) k s o m = go (lowest s) (members-to n (suc k) (s / 2) o)
   where
     later : From n (suc k) (s / 2) o → From (suc n) k s o
     later (i, h, e, b) = (suc i, omega arith, omega arith, bit-later s i ∙ b)
+
     go : Lowest s → (List·Memᴰ o (members-from n (suc k) (s / 2)) → From n (suc k) (s / 2) o) → From (suc n) k s o
     go (off e t) f = later (f (rw t at m))
     go (on e t) f = ⊎-elim (λ h. (0, omega arith, omega arith, bit-first s ∙ e)) (λ h. later (f h)) (List·Memᴰ·cases-cons (rw t at m))
@@ -140,6 +142,7 @@ members-of (suc n) k s (suc i) h b = go (lowest s) (rw e at (members-of n (suc k
   where
     e : suc k + i ≡ k + suc i
     e = omega arith
+
     go : Lowest s → List·Memᴰ (k + suc i) (members-from n (suc k) (s / 2))
         → List·Memᴰ (k + suc i) (pick (eqb (s % 2) 1) (k ∷ members-from n (suc k) (s / 2)) (members-from n (suc k) (s / 2)))
     go (off z t) m = rw t m
@@ -180,6 +183,7 @@ size-is s h = record {
   where
     to : (o : ℕ) → List·Memᴰ o (members-from set-bits 0 s) → In s o
     to o m = let (i, l, e, b) = members-to set-bits 0 s o m in let w : o ≡ i = omega arith in rw w b
+
     of : (o : ℕ) → In s o → List·Memᴰ o (members-from set-bits 0 s)
     of o b = go (decLt o set-bits)
       where
@@ -190,7 +194,7 @@ size-is s h = record {
 pub size-once : (s n m : ℕ) → Size s n → Size s m → n ≡ m
 size-once s n m a b =
     let e : a .members ≡ b .members
-            = rising-once (a .members) (b .members) (a .rising) (b .rising) (λ o h. b .exactly o .1 (a .exactly o .0 h)) (λ o h. a .exactly o .1 (b .exactly o .0 h)) in
+    = rising-once (a .members) (b .members) (a .rising) (b .rising) (λ o h. b .exactly o .1 (a .exactly o .0 h)) (λ o h. a .exactly o .1 (b .exactly o .0 h)) in
     sym (a .many) ∙ ap length e ∙ b .many
 
 -- ── the first in a set ──
@@ -206,6 +210,7 @@ first-from (suc n) s = go (lowest s) (first-from n (s / 2))
     later : (m : ℕ) → s % 2 ≡ 0 → Free (In (s / 2)) m → Free (In s) (suc m)
     later m e f zero h b = omega (arith, sym (bit-first s) ∙ b)
     later m e f (suc j) h b = f j (omega arith) (sym (bit-later s j) ∙ b)
+
     go : Lowest s → Firstly n (s / 2) (trailingZeros n (s / 2)) → Firstly (suc n) s (under (s % 2) (trailingZeros n (s / 2)))
     go (on e t) w = rw e (inl (record { below = omega arith; has = bit-first s ∙ e; first = λ j h b. omega arith }))
     go (off e t) (inl l) = rw e (inl (record {

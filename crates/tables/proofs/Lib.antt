@@ -5,3 +5,4 @@ pub mod Holds
 pub mod Entries
 pub mod Promise
 pub mod BitSets
+pub mod Carried

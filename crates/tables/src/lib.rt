@@ -1,1 +1,6 @@
 mod sets;
+mod blocks;
+
+pub use blocks::block_size;
+pub use blocks::first_occurrence;
+pub use blocks::occurrences;

@@ -1,0 +1,12 @@
+-- The ones of a set of 64 bits are those in it.
+use native.Mathlib.Omega.{arith}
+use borrow.Author.Needs.{needs}
+use Rattle.tables.proofs.BitSets.{size-is}
+use Rattle.tables.proofs.blocks.block_size.Statement.{statement}
+use Rattle.tables.proofs.blocks.block_size.Tie as tie
+
+returns : tie.Need-returns
+returns c = size-is (c .args .set) (search needs)
+
+pub block-size-spec : {M : Type 1} → statement M
+block-size-spec = tie.close (tie.spec returns)
