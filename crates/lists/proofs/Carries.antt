@@ -3,8 +3,9 @@ use mathlib.Core.Path.{_≡_, refl, sym, _∙_, subst}
 use mathlib.Core.List.{List, [], _∷_, _++_}
 use Prim.Native.Nat.{ℕ, zero, suc, _+_, _<_}
 use native.Mathlib.Omega.{arith}
+use native.Mathlib.Decide.{decLt}
 use lib.ListN.{length, getD, length-append, List·getD-append}
-use lib.Seq.{getD-append-add}
+use lib.Seq.{getD-append-add, getD-append-seam}
 
 -- l has xs from the place at on
 abbrev pub Carries : List ℕ → ℕ → List ℕ → Type 0
@@ -33,3 +34,13 @@ module _ (l : List ℕ) (at : ℕ) where
   -- the same place, told otherwise
   pub carries-at : (to : ℕ) (xs : List ℕ) → at ≡ to → Carries l at xs → Carries l to xs
   carries-at to xs e h = subst (λ n. Carries l n xs) e h
+
+  -- one more behind
+  pub carries-snoc : (xs : List ℕ) (x : ℕ) → Carries l at xs → getD l (at + length xs) 0 ≡ x → Carries l at (xs ++ x ∷ [])
+  carries-snoc xs x h e j k = go (decLt j (length xs))
+    where
+      go : Dec (j < length xs) → getD l (at + j) 0 ≡ getD (xs ++ x ∷ []) j 0
+      go (yes m) = h j m ∙ sym (List·getD-append xs (x ∷ []) 0 j m)
+      go (no m) =
+          let i : j ≡ length xs = omega (arith, length-append xs (x ∷ [])) in
+          rw i (e ∙ sym (getD-append-seam xs x [] 0))

@@ -1,2 +1,4 @@
 pub mod Rule
 pub mod Visits
+pub mod Listed
+pub mod InOrder
