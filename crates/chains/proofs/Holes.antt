@@ -5,7 +5,7 @@ use mathlib.Core.List.{List, [], _∷_, _++_, append-assoc, append-nil}
 use Prim.Native.Nat.{ℕ, zero, suc, _+_, _≤_, _<_}
 use native.Mathlib.Omega.{arith}
 use lib.ListN.{length, length-append}
-use Rattle.chains.specs.Grammar.{Occ, Grammar, Heads}
+use Rattle.chains.specs.Grammar.{Occ, Grammar}
 use Rattle.chains.specs.Tree.{Bush, nil, grow, size, flat, Kinded, Root, Slot, Inst, At, Sub}
 use Rattle.chains.specs.Chain.{Own, Edge}
 use Rattle.chains.specs.Replace.{Hole, here, inside, after, plug, spot, prefix, suffix, Moves, Shifts}
@@ -14,7 +14,7 @@ use Rattle.chains.proofs.Forest.{Tree}
 use Rattle.chains.proofs.Local.{closure-iff}
 use Rattle.chains.proofs.Upward.{Up}
 use Rattle.chains.proofs.Nodes.{sub-in, flat-length}
-use Rattle.chains.proofs.Moved.{Moved, root-move, sub-move, edge-move}
+use Rattle.chains.proofs.Moved.{root-move, sub-move, edge-move}
 
 -- ── where the hole is ──
 pub spot-in : (h : Hole) (n q : ℕ) (ds : Bush) → (n ≤ spot h n) × (spot h n + size ds < n + size (plug h q ds))
@@ -37,7 +37,8 @@ pub hole-of : (f : Bush) (n i q : ℕ) (ds : Bush) → Sub f n i q ds → (h : H
 hole-of nil n i q ds s = absurd s
 hole-of (grow p cs rest) n i q ds (inl (ei, ep, ec)) = (here rest, cc, sym ei)
 hole-of (grow p cs rest) n i q ds (inr (inl s)) = let (h, e, ei) = hole-of cs (suc n) i q ds s in (inside p h rest, ap (λ c. grow p c rest) e, ei)
-hole-of (grow p cs rest) n i q ds (inr (inr s)) = let (h, e, ei) = hole-of rest (suc (n + size cs)) i q ds s in (after p cs h, ap (λ c. grow p cs c) e, ei)
+hole-of (grow p cs rest) n i q ds (inr (inr s)) =
+    let (h, e, ei) = hole-of rest (suc (n + size cs)) i q ds s in (after p cs h, ap (λ c. grow p cs c) e, ei)
 
 -- ── the hole in preorder ──
 pub plug-flat : (h : Hole) (q : ℕ) (ds : Bush) → flat (plug h q ds) ≡ prefix h ++ (flat (grow q ds nil) ++ suffix h)
@@ -186,7 +187,8 @@ module _ (G : Grammar) where
   plug-kind (after p cs h) (x ∷ ks) q q′ ds ds′ k k′ = plug-kind h ks q q′ ds ds′ (k .2) (k′ .2)
 
   -- and a tree of that kind may stand there
-  pub plug-kinded : (h : Hole) (ks : List ℕ) (q q′ : ℕ) (ds ds′ : Bush) → Kinded G (plug h q ds) ks → Kinded G (grow q′ ds′ nil) (G .left q ∷ []) → Kinded G (plug h q′ ds′) ks
+  pub plug-kinded : (h : Hole) (ks : List ℕ) (q q′ : ℕ) (ds ds′ : Bush) → Kinded G (plug h q ds) ks → Kinded G (grow q′ ds′ nil) (G .left q ∷ [])
+      → Kinded G (plug h q′ ds′) ks
   plug-kinded (here rest) [] q q′ ds ds′ k k′ = absurd k
   plug-kinded (here rest) (x ∷ ks) q q′ ds ds′ k k′ = ((k′ .0 .0, k′ .0 .1 ∙ k .0 .1), k′ .1, k .2)
   plug-kinded (inside p h rest) [] q q′ ds ds′ k k′ = absurd k
@@ -205,9 +207,10 @@ module _ (G : Grammar) where
     plug-up (after p cs h) zero a b = Iff·rfl
     plug-up (after p cs h) (suc j) a b = plug-up h j a b
 
-    -- m′ is a node whose production has p's left kind on its left, and whose subtree relates what the subtree (p, cs) does
+    -- m′ is a node of f with the production p, or with the new one where p was the old, and its subtree relates what the subtree (p, cs) does
     abbrev pub Counterpart : Bush → ℕ → ℕ → ℕ → Bush → Type 0
-    Counterpart f n m′ p cs = (p′ : ℕ) × (cs′ : Bush) × Sub f n m′ p′ cs′ × ((p ≡ p′) ⊎ ((p ≡ q) × (p′ ≡ q′))) × ((a b : ℕ) → Up G (grow p cs nil) 0 a b ↔ Up G (grow p′ cs′ nil) 0 a b)
+    Counterpart f n m′ p cs = (p′ : ℕ) × (cs′ : Bush) × Sub f n m′ p′ cs′ × ((p ≡ p′) ⊎ ((p ≡ q) × (p′ ≡ q′)))
+        × ((a b : ℕ) → Up G (grow p cs nil) 0 a b ↔ Up G (grow p′ cs′ nil) 0 a b)
 
     moved-counterpart : (f : Bush) (n n′ m m′ p : ℕ) (cs : Bush) → m′ + n ≡ m + n′ → Sub f n m p cs → Counterpart f n′ m′ p cs
     moved-counterpart f n n′ m m′ p cs e s =
@@ -216,7 +219,8 @@ module _ (G : Grammar) where
         (p, cs, rw em at s′, inl refl, λ a b. Iff·rfl)
 
     -- every node outside the hole, and the one at it, has its counterpart
-    pub sub-counterpart : (h : Hole) (n m m′ p : ℕ) (cs : Bush) → Moves (spot h n) (size ds) (size ds′) m m′ → Sub (plug h q ds) n m p cs → Counterpart (plug h q′ ds′) n m′ p cs
+    pub sub-counterpart : (h : Hole) (n m m′ p : ℕ) (cs : Bush) → Moves (spot h n) (size ds) (size ds′) m m′ → Sub (plug h q ds) n m p cs
+        → Counterpart (plug h q′ ds′) n m′ p cs
     sub-counterpart (here rest) n m m′ p cs mv (inl (em, ep, ec)) =
         let e = moves-stay n (size ds) (size ds′) m m′ mv (omega arith) in
         (q′, ds′, inl (e ∙ em, refl, refl), inr (sym ep, refl), rw (← ep, ← ec) same)

@@ -31,3 +31,6 @@ pub mod Entries
 pub mod Moved
 pub mod Holes
 pub mod Replace
+pub mod Sheets
+pub mod OneNumbering
+pub mod Sharing

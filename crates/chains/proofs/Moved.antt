@@ -1,6 +1,6 @@
 -- A forest does not depend on where it stands: from n to n′, every node and every dependence moves along.
 use mathlib.Core.Path.{_≡_, refl}
-use mathlib.Core.Logic.{_⊎_, inl, inr}
+use mathlib.Core.Logic.{inl, inr}
 use Prim.Native.Nat.{ℕ, zero, suc, _+_}
 use native.Mathlib.Omega.{arith}
 use Rattle.chains.specs.Grammar.{Occ, Grammar}

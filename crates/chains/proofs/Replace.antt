@@ -2,11 +2,11 @@
 use mathlib.Core.Path.{_≡_, refl, sym, _∙_, ap, subst₂}
 use mathlib.Core.Logic.{_⊎_, inl, inr, _↔_, Iff·symm, Iff·trans}
 use mathlib.Core.List.{List, [], _∷_}
-use Prim.Native.Nat.{ℕ, suc, _+_, _≤_, _<_}
+use Prim.Native.Nat.{ℕ, _+_, _≤_, _<_}
 use native.Mathlib.Omega.{arith}
 use Rattle.chains.specs.Grammar.{Grammar, Lawful}
 use Rattle.chains.specs.Tree.{Bush, nil, grow, size, Kinded, Inst, Sub, Fitted}
-use Rattle.chains.specs.Chain.{Edge, Chain, Eqv, done, fwd, bwd}
+use Rattle.chains.specs.Chain.{Edge, Chain, RootChains, NodeChains, Eqv, done, fwd, bwd}
 use Rattle.chains.specs.Grouping.{Says}
 use Rattle.chains.specs.Replace.{Hole, plug, spot, Moves, Shifts, Interchange}
 use Rattle.chains.proofs.Closure.{trans, back, more, Glued, glue}
@@ -19,7 +19,8 @@ use Rattle.chains.proofs.Alike.{says-same}
 use Rattle.chains.proofs.Holes.{Outer, plug-split, plug-outer, plug-inner, outer-shift, shifts-back, shifts-one, plug-kind, sub-counterpart}
 
 -- ── chains outside, one way; the other way is the same with the two trees exchanged ──
-module _ (G : Grammar) (q q′ : ℕ) (ds ds′ : Bush) (fits : Fits G (grow q′ ds′ nil)) (same : (a b : ℕ) → Up G (grow q ds nil) 0 a b → Up G (grow q′ ds′ nil) 0 a b)
+module _ (G : Grammar) (q q′ : ℕ) (ds ds′ : Bush) (fits : Fits G (grow q′ ds′ nil))
+    (same : (a b : ℕ) → Up G (grow q ds nil) 0 a b → Up G (grow q′ ds′ nil) 0 a b)
     (h : Hole) (n : ℕ) where
   abbrev Outside : Inst → Type 0
   Outside x = (x .0 ≤ spot h n) ⊎ (spot h n + size ds < x .0)
@@ -78,13 +79,13 @@ module _ (G : Grammar) (q q′ : ℕ) (ds ds′ : Bush) (fits : Fits G (grow q�
   pub replace : (x y x′ y′ : Inst) → To x x′ → To y y′ → Chain G (plug h q ds) n x y → Chain G (plug h q′ ds′) n x′ y′
   replace x y x′ y′ sx sy c =
       let g = glue (Edge G (plug h q ds) n) (Outer G h n q ds) (Tree G q (spot h n) ds) Outside (Within (spot h n) ds) (Top (spot h n))
-          (plug-split G h n q ds) outer-outside (tree-in G q (spot h n) ds) meet (to-outside x x′ sx) (to-outside y y′ sy) c in
+      (plug-split G h n q ds) outer-outside (tree-in G q (spot h n) ds) meet (to-outside x x′ sx) (to-outside y y′ sy) c in
       let (z, sz, d) = lands x′ sx g in
       rw (shifts-one (spot h n) (size ds) (size ds′) y y′ z sy sz) d
 
 -- ── what goes up from two trees of one kind whose own chains agree ──
 module _ (G : Grammar) (L : Lawful G) (k : ℕ) where
-  own-kept : (q : ℕ) (ds : Bush) → Kinded G (grow q ds nil) (k ∷ []) → (a b : ℕ) → Chain G (grow q ds nil) 0 (0, a) (0, b)
+  own-kept : (q : ℕ) (ds : Bush) → Kinded G (grow q ds nil) (k ∷ []) → (a b : ℕ) → RootChains G q ds a b
       → (a ≡ b) ⊎ ((a < G .settings (G .left q)) × (b < G .settings (G .left q)))
   own-kept q ds kinded a b c =
       elim (chain-fitted G L (grow q ds nil) (k ∷ []) 0 kinded c) [ inl e ↦ inl (ap (λ (x : Inst). x .1) e) | inr h ↦ inr (has a (h .0), has b (h .1)) ]
@@ -93,22 +94,24 @@ module _ (G : Grammar) (L : Lawful G) (k : ℕ) where
       has a (p, cs, s, l) = rw (sub-one (grow q ds nil) 0 0 q p ds cs (inl (refl, refl, refl)) s .0) l
 
   up-there : (q q′ : ℕ) (ds ds′ : Bush) → Kinded G (grow q ds nil) (k ∷ []) → Kinded G (grow q′ ds′ nil) (k ∷ [])
-      → ((a b : ℕ) → a < G .settings (G .left q) → b < G .settings (G .left q) → Chain G (grow q ds nil) 0 (0, a) (0, b) → Chain G (grow q′ ds′ nil) 0 (0, a) (0, b))
+      → ((a b : ℕ) → a < G .settings (G .left q) → b < G .settings (G .left q) → RootChains G q ds a b → RootChains G q′ ds′ a b)
       → (a b : ℕ) → Up G (grow q ds nil) 0 a b → Up G (grow q′ ds′ nil) 0 a b
   up-there q q′ ds ds′ kinded kinded′ agree a b u =
       let c = up-chain G (grow q ds nil) 0 0 0 a b (kinded-fits G L (grow q ds nil) (k ∷ []) kinded) refl u in
-      let c′ : Chain G (grow q′ ds′ nil) 0 (0, a) (0, b) = elim (own-kept q ds kinded a b c) [ inl e ↦ rw e done | inr h ↦ agree a b (h .0) (h .1) c ] in
+      let c′ : RootChains G q′ ds′ a b = elim (own-kept q ds kinded a b c) [ inl e ↦ rw e done | inr h ↦ agree a b (h .0) (h .1) c ] in
       chain-up G (grow q′ ds′ nil) 0 0 0 a b refl c′
 
   pub same-up : (q q′ : ℕ) (ds ds′ : Bush) → Kinded G (grow q ds nil) (k ∷ []) → Kinded G (grow q′ ds′ nil) (k ∷ []) → Interchange G q q′ ds ds′
       → (a b : ℕ) → Up G (grow q ds nil) 0 a b ↔ Up G (grow q′ ds′ nil) 0 a b
   same-up q q′ ds ds′ kinded kinded′ agree a b =
-      let e : G .left q′ ≡ G .left q = kinded′ .0 .1 ∙ sym (kinded .0 .1) in
-      ( up-there q q′ ds ds′ kinded kinded′ (λ a b la lb. agree a b la lb .0) a b
-      , up-there q′ q ds′ ds kinded′ kinded (λ a b la lb. agree a b (rw e at la) (rw e at lb) .1) a b )
+      let e : G .left q′ ≡ G .left q = kinded′ .0 .1 ∙ sym (kinded .0 .1) in (
+        up-there q q′ ds ds′ kinded kinded′ (λ a b la lb. agree a b la lb .0) a b,
+        up-there q′ q ds′ ds kinded′ kinded (λ a b la lb. agree a b (rw e at la) (rw e at lb) .1) a b,
+      )
 
 -- ── the theorems: two trees that differ in the subtree at one node only, where the own chains of the two subtrees agree ──
-module _ (G : Grammar) (L : Lawful G) (h : Hole) (ks : List ℕ) (q q′ : ℕ) (ds ds′ : Bush) (kinded : Kinded G (plug h q ds) ks) (kinded′ : Kinded G (plug h q′ ds′) ks)
+module _ (G : Grammar) (L : Lawful G) (h : Hole) (ks : List ℕ) (q q′ : ℕ) (ds ds′ : Bush) (kinded : Kinded G (plug h q ds) ks)
+    (kinded′ : Kinded G (plug h q′ ds′) ks)
     (agree : Interchange G q q′ ds ds′) where
   goes-up : (a b : ℕ) → Up G (grow q ds nil) 0 a b ↔ Up G (grow q′ ds′ nil) 0 a b
   goes-up = let (k, kq, kq′) = plug-kind G h ks q q′ ds ds′ kinded kinded′ in same-up G L k q q′ ds ds′ kq kq′ agree
@@ -122,21 +125,26 @@ module _ (G : Grammar) (L : Lawful G) (h : Hole) (ks : List ℕ) (q q′ : ℕ) 
   replaced-chains x y x′ y′ sx sy =
       let (k, kq, kq′) = plug-kind G h ks q q′ ds ds′ kinded kinded′ in
       let back-x = shifts-back (spot h 0) (size ds) (size ds′) x x′ sx in
-      let back-y = shifts-back (spot h 0) (size ds) (size ds′) y y′ sy in
-      ( replace G q q′ ds ds′ (kinded-fits G L (grow q′ ds′ nil) (k ∷ []) kq′) (λ a b. goes-up a b .0) h 0 x y x′ y′ sx sy
-      , replace G q′ q ds′ ds (kinded-fits G L (grow q ds nil) (k ∷ []) kq) (λ a b. goes-up a b .1) h 0 x′ y′ x y back-x back-y )
+      let back-y = shifts-back (spot h 0) (size ds) (size ds′) y y′ sy in (
+        replace G q q′ ds ds′ (kinded-fits G L (grow q′ ds′ nil) (k ∷ []) kq′) (λ a b. goes-up a b .0) h 0 x y x′ y′ sx sy,
+        replace G q′ q ds′ ds (kinded-fits G L (grow q ds nil) (k ∷ []) kq) (λ a b. goes-up a b .1) h 0 x′ y′ x y back-x back-y,
+      )
 
   -- ── one node outside, or the node itself ──
-  module _ (m m′ : ℕ) (moves : Moves (spot h 0) (size ds) (size ds′) m m′) (p p′ : ℕ) (cs cs′ : Bush) (s : Sub (plug h q ds) 0 m p cs) (s′ : Sub (plug h q′ ds′) 0 m′ p′ cs′) where
+  module _ (m m′ : ℕ) (moves : Moves (spot h 0) (size ds) (size ds′) m m′) (p p′ : ℕ) (cs cs′ : Bush) (s : Sub (plug h q ds) 0 m p cs)
+      (s′ : Sub (plug h q′ ds′) 0 m′ p′ cs′) where
     -- It has the same kind.
     pub replaced-kind : G .left p ≡ G .left p′
     replaced-kind =
         let (p″, cs″, s″, e, u) = sub-counterpart G q q′ ds ds′ goes-up h 0 m m′ p cs moves s in
-        let e′ : G .left p ≡ G .left p″ = elim e [ inl i ↦ ap (λ t. G .left t) i | inr i ↦ ap (λ t. G .left t) (i .0) ∙ (hole-kind ∙ sym (ap (λ t. G .left t) (i .1))) ] in
-        e′ ∙ ap (λ t. G .left t) (sub-one (plug h q′ ds′) 0 m′ p″ p′ cs″ cs′ s″ s′ .0)
+        kept p p″ e ∙ ap (λ t. G .left t) (sub-one (plug h q′ ds′) 0 m′ p″ p′ cs″ cs′ s″ s′ .0)
+      where
+        kept : (p p″ : ℕ) → (p ≡ p″) ⊎ ((p ≡ q) × (p″ ≡ q′)) → G .left p ≡ G .left p″
+        kept p p″ (inl e) = ap (λ t. G .left t) e
+        kept p p″ (inr (e, e″)) = ap (λ t. G .left t) e ∙ (hole-kind ∙ sym (ap (λ t. G .left t) e″))
 
     -- The chains of its own subtree agree among its settings.
-    pub replaced-subtree : (a b : ℕ) → Chain G (grow p cs nil) 0 (0, a) (0, b) ↔ Chain G (grow p′ cs′ nil) 0 (0, a) (0, b)
+    pub replaced-subtree : (a b : ℕ) → RootChains G p cs a b ↔ RootChains G p′ cs′ a b
     replaced-subtree a b =
         let (p″, cs″, s″, e, u) = sub-counterpart G q q′ ds ds′ goes-up h 0 m m′ p cs moves s in
         let (ep, ec) = sub-one (plug h q′ ds′) 0 m′ p″ p′ cs″ cs′ s″ s′ in
@@ -146,17 +154,17 @@ module _ (G : Grammar) (L : Lawful G) (h : Hole) (ks : List ℕ) (q q′ : ℕ) 
         Iff·trans (chain-iff-up G (grow p cs nil) 0 0 0 a b fits refl) (Iff·trans u′ (Iff·symm (chain-iff-up G (grow p′ cs′ nil) 0 0 0 a b fits′ refl)))
 
     -- So a code that says its subtree's chains says them also after the replacement.
-    pub replaced-plausible : (c : ℕ) → Says (G .settings (G .left p)) c (λ a b. Chain G (grow p cs nil) 0 (0, a) (0, b))
-        ↔ Says (G .settings (G .left p′)) c (λ a b. Chain G (grow p′ cs′ nil) 0 (0, a) (0, b))
+    pub replaced-plausible : (c : ℕ) → Says (G .settings (G .left p)) c (RootChains G p cs)
+        ↔ Says (G .settings (G .left p′)) c (RootChains G p′ cs′)
     replaced-plausible c =
-        says-same (G .settings (G .left p)) (G .settings (G .left p′)) c (λ a b. Chain G (grow p cs nil) 0 (0, a) (0, b)) (λ a b. Chain G (grow p′ cs′ nil) 0 (0, a) (0, b))
+        says-same (G .settings (G .left p)) (G .settings (G .left p′)) c (RootChains G p cs) (RootChains G p′ cs′)
         (ap (λ t. G .settings t) replaced-kind) replaced-subtree
 
     -- And so does a code that says the whole tree's chains among its settings.
-    pub replaced-feasible : (c : ℕ) → Says (G .settings (G .left p)) c (λ a b. Chain G (plug h q ds) 0 (m, a) (m, b))
-        ↔ Says (G .settings (G .left p′)) c (λ a b. Chain G (plug h q′ ds′) 0 (m′, a) (m′, b))
+    pub replaced-feasible : (c : ℕ) → Says (G .settings (G .left p)) c (NodeChains G (plug h q ds) m)
+        ↔ Says (G .settings (G .left p′)) c (NodeChains G (plug h q′ ds′) m′)
     replaced-feasible c =
-        says-same (G .settings (G .left p)) (G .settings (G .left p′)) c (λ a b. Chain G (plug h q ds) 0 (m, a) (m, b)) (λ a b. Chain G (plug h q′ ds′) 0 (m′, a) (m′, b))
+        says-same (G .settings (G .left p)) (G .settings (G .left p′)) c (NodeChains G (plug h q ds) m) (NodeChains G (plug h q′ ds′) m′)
         (ap (λ t. G .settings t) replaced-kind) (λ a b. replaced-chains (m, a) (m, b) (m′, a) (m′, b) (moves, refl) (moves, refl))
 
   -- A setting outside that there is before is there after.

@@ -1,7 +1,7 @@
 -- A number r * m + t of a digit r that counts most and a rest t below m.
-use mathlib.Core.Path.{_≡_, refl, sym, ap, _∙_}
+use mathlib.Core.Path.{_≡_, sym, ap, _∙_}
 use Prim.Native.Nat.{ℕ, zero, suc, _+_, _*_, _/_, _%_, _≤_, _<_}
-use native.Mathlib.Nat.{mod-lt, mod-eq-of-lt, div-eq-of-lt, add-zero, mul-comm, mul-le-mul-right, mul-add-div-right, mul-add-mod-self-right, div-add-mod', div-lt-iff-lt-mul}
+use native.Mathlib.Nat.{mod-lt, mod-eq-of-lt, div-eq-of-lt, add-zero, mul-comm, mul-le-mul-right, mul-add-div-right, mul-add-mod-self-right, div-lt-iff-lt-mul}
 use native.Mathlib.Omega.{arith}
 
 pub digit-below : {n m : ℕ} (r t : ℕ) → r < n → t < m → r * m + t < n * m
@@ -20,21 +20,13 @@ digit-once {m} r t r′ t′ l l′ e =
     rest : (r t : ℕ) → t < m → (r * m + t) % m ≡ t
     rest r t l = mul-add-mod-self-right r m t ∙ mod-eq-of-lt l
 
--- x is such a number, of a digit below n
-pub record Digits (n m x : ℕ) : Type 0 where
-  pub first : ℕ
-  pub rest : ℕ
-  pub first-below : first < n
-  pub rest-below : rest < m
-  pub made : first * m + rest ≡ x
+-- every number below n * m is one, of a digit below n
+positive : (n m x : ℕ) → x < n * m → 0 < m
+positive n zero x h = absurd (omega (arith, mul-comm n 0))
+positive n (suc m) x h = omega arith
 
-pub digits-of : (n m x : ℕ) → x < n * m → Digits n m x
-digits-of n zero x h = absurd (omega (arith, mul-comm n 0))
-digits-of n (suc m) x h =
-    record {
-      first = x / suc m;
-      rest = x % suc m;
-      first-below = div-lt-iff-lt-mul {k = suc m} (omega arith) .1 h;
-      rest-below = mod-lt x (omega arith);
-      made = div-add-mod' x (suc m);
-    }
+pub first-below : (n m x : ℕ) → x < n * m → x / m < n
+first-below n m x h = div-lt-iff-lt-mul (positive n m x h) .1 h
+
+pub rest-below : (n m x : ℕ) → x < n * m → x % m < m
+rest-below n m x h = mod-lt x (positive n m x h)

@@ -1,15 +1,15 @@
 -- Entry numbers: each production and choice of ranks has its own, and every number below the total is one's.
-use mathlib.Core.Path.{_≡_, refl, sym, ap, ap₂, _∙_}
+use mathlib.Core.Path.{_≡_, refl, ap, ap₂, _∙_}
 use mathlib.Core.List.{List, [], _∷_}
-use Prim.Native.Nat.{ℕ, zero, suc, _+_, _*_, _^_, _≤_, _<_}
-use native.Mathlib.Nat.{mul-comm, mul-le-mul, pow-zero, pow-suc}
+use Prim.Native.Nat.{ℕ, zero, suc, _+_, _*_, _/_, _%_, _^_, _≤_, _<_}
+use native.Mathlib.Nat.{mul-comm, mul-le-mul, pow-zero, pow-suc, div-add-mod'}
 use native.Mathlib.Omega.{arith}
 use lib.ListN.{length, getD}
 use Rattle.chains.specs.Grammar.{Grammar}
 use Rattle.chains.specs.Grouping.{Members}
 use Rattle.ranks.specs.Entries.{choices, choice, up-start, up-entry, down-start, down-entry}
-use Rattle.ranks.proofs.Digits.{digit-below, digit-once, Digits, digits-of}
-use Rattle.ranks.proofs.Runs.{starts, InRun, starts-after, starts-few, run-below, run-once, run-of}
+use Rattle.ranks.proofs.Digits.{digit-below, digit-once, first-below, rest-below}
+use Rattle.ranks.proofs.Runs.{starts, starts-after, starts-few, run-once, run-of}
 
 -- ranks rs, one for each of the kinds ks, each below its kind's count
 abbrev pub Ranks : List ℕ → List ℕ → List ℕ → Type 0
@@ -34,18 +34,32 @@ choice-once c (k ∷ ks) (r ∷ rs) (r′ ∷ rs′) h h′ e =
     ap₂ _∷_ (d .0) (choice-once c ks rs rs′ (h .1) (h′ .1) (d .1))
 
 -- the ranks of the choice with the number x
-pub record ChoiceOf (c ks : List ℕ) (x : ℕ) : Type 0 where
-  pub ranks : List ℕ
-  pub below : Ranks c ks ranks
-  pub made : choice c ks ranks ≡ x
+unfoldable pub ranks-of : List ℕ → List ℕ → ℕ → List ℕ
+ranks-of c [] x = []
+ranks-of c (k ∷ ks) x = x / choices c ks ∷ ranks-of c ks (x % choices c ks)
 
-pub choice-of : (c ks : List ℕ) (x : ℕ) → x < choices c ks → ChoiceOf c ks x
+pub ranks-of-below : (c ks : List ℕ) (x : ℕ) → x < choices c ks → Ranks c ks (ranks-of c ks x)
+unfolding choices ranks-of
+ranks-of-below c [] x h = tt
+ranks-of-below c (k ∷ ks) x h =
+    (first-below (getD c k 0) (choices c ks) x h, ranks-of-below c ks (x % choices c ks) (rest-below (getD c k 0) (choices c ks) x h))
+
+pub choice-ranks-of : (c ks : List ℕ) (x : ℕ) → x < choices c ks → choice c ks (ranks-of c ks x) ≡ x
+unfolding choices choice ranks-of
+choice-ranks-of c [] x h = omega arith
+choice-ranks-of c (k ∷ ks) x h =
+    ap (λ t. x / choices c ks * choices c ks + t) (choice-ranks-of c ks (x % choices c ks) (rest-below (getD c k 0) (choices c ks) x h))
+    ∙ div-add-mod' x (choices c ks)
+
+pub ranks-of-choice : (c ks rs : List ℕ) → Ranks c ks rs → ranks-of c ks (choice c ks rs) ≡ rs
+ranks-of-choice c ks rs h =
+    let l = choice-below c ks rs h in
+    choice-once c ks (ranks-of c ks (choice c ks rs)) rs (ranks-of-below c ks (choice c ks rs) l) h (choice-ranks-of c ks (choice c ks rs) l)
+
+-- unlike children: the first of a kind with 3 members, the second of one with 4; rank 2 of the first and rank 1 of the second make 2 * 4 + 1
+unlike : choice (5 ∷ 3 ∷ 4 ∷ []) (1 ∷ 2 ∷ []) (2 ∷ 1 ∷ []) ≡ 9
 unfolding choices choice
-choice-of c [] x h = record { ranks = []; below = tt; made = omega arith }
-choice-of c (k ∷ ks) x h =
-    let d = digits-of (getD c k 0) (choices c ks) x h in
-    let i = choice-of c ks (d .rest) (d .rest-below) in
-    record { ranks = d .first ∷ i .ranks; below = (d .first-below, i .below); made = ap (λ t. d .first * choices c ks + t) (i .made) ∙ d .made }
+unlike = refl
 
 -- kinds with at most m members each
 pub choices-few : (c : List ℕ) (m : ℕ) (ks : List ℕ) → ((j : ℕ) → j < length ks → getD c (getD ks j 0) 0 ≤ m) → choices c ks ≤ m ^ length ks
@@ -108,8 +122,14 @@ module _ (G : Grammar) (c : List ℕ) where
   unfolding ups
   up-entry-of n x h =
       let i = run-of ups n x (rw (up-starts n) at h) in
-      let j = choice-of c (G .kids (i .run)) (i .place) (i .place-below) in
-      record { prod = i .run; ranks = j .ranks; prod-below = i .run-below; below = j .below; made = ap₂ _+_ (up-starts (i .run)) (j .made) ∙ i .made }
+      let ks = G .kids (i .run) in
+      record {
+        prod = i .run;
+        ranks = ranks-of c ks (i .place);
+        prod-below = i .run-below;
+        below = ranks-of-below c ks (i .place) (i .place-below);
+        made = ap₂ _+_ (up-starts (i .run)) (choice-ranks-of c ks (i .place) (i .place-below)) ∙ i .made;
+      }
 
 -- the number of a down entry among its production's, whose children have the kinds ks
 abbrev within : List ℕ → List ℕ → ℕ → List ℕ → ℕ
@@ -158,16 +178,18 @@ module _ (G : Grammar) (c d : List ℕ) where
   unfolding downs
   down-entry-of n x h =
       let i = run-of downs n x (rw (down-starts n) at h) in
-      let j = digits-of (getD d (G .left (i .run)) 0) (choices c (G .kids (i .run))) (i .place) (i .place-below) in
-      let k = choice-of c (G .kids (i .run)) (j .rest) (j .rest-below) in
-      let inside : within c (G .kids (i .run)) (j .first) (k .ranks) ≡ i .place
-      = ap (λ t. j .first * choices c (G .kids (i .run)) + t) (k .made) ∙ j .made in
+      let ks = G .kids (i .run) in
+      let m = choices c ks in
+      let u = getD d (G .left (i .run)) 0 in
+      let l = rest-below u m (i .place) (i .place-below) in
+      let t : within c ks (i .place / m) (ranks-of c ks (i .place % m)) ≡ i .place
+      = ap (λ y. i .place / m * m + y) (choice-ranks-of c ks (i .place % m) l) ∙ div-add-mod' (i .place) m in
       record {
         prod = i .run;
-        rank = j .first;
-        ranks = k .ranks;
+        rank = i .place / m;
+        ranks = ranks-of c ks (i .place % m);
         prod-below = i .run-below;
-        rank-below = j .first-below;
-        below = k .below;
-        made = ap₂ _+_ (down-starts (i .run)) inside ∙ i .made;
+        rank-below = first-below u m (i .place) (i .place-below);
+        below = ranks-of-below c ks (i .place % m) l;
+        made = ap₂ _+_ (down-starts (i .run)) t ∙ i .made;
       }

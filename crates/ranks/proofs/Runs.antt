@@ -1,7 +1,7 @@
 -- Runs of numbers, one after another from 0 on: the p-th of them has w p numbers.
-use mathlib.Core.Path.{_≡_, refl, sym, ap, _∙_}
+use mathlib.Core.Path.{_≡_, ap}
 use Prim.Native.Nat.{ℕ, zero, suc, _+_, _*_, _-_, _≤_, _<_}
-use native.Mathlib.Decide.{decLe, decLt}
+use native.Mathlib.Decide.{decLt}
 use native.Mathlib.Omega.{arith}
 
 -- where the p-th run starts
@@ -27,9 +27,6 @@ module _ (w : ℕ → ℕ) where
       go : Dec (p < n) → (p < n → starts w p + w p ≤ starts w n) → starts w p + w p ≤ starts w n + w n
       go (yes l) earlier = omega (arith, earlier l)
       go (no l) earlier = let e : p ≡ n = omega arith in rw e (omega arith)
-
-  pub run-below : (p n t : ℕ) → p < n → t < w p → starts w p + t < starts w n
-  run-below p n t h l = omega (arith, starts-after p n h)
 
   pub run-once : (p t p′ t′ : ℕ) → t < w p → t′ < w p′ → starts w p + t ≡ starts w p′ + t′ → (p ≡ p′) × (t ≡ t′)
   run-once p t p′ t′ l l′ e = go (decLt p p′) (decLt p′ p)

@@ -12,6 +12,7 @@ pub const KIDS: usize = 4;
 pub const LABELS: usize = 40;
 
 pub const ENTRY: usize = 44;
+
 // The absence of a label or a rank.
 pub const NONE: u8 = 255;
 
@@ -49,7 +50,8 @@ fn numbered(most: u8, counts: [u8; KIDS], ranks: [Plausible; KIDS]) -> u64
     number
 }
 
-// What the up table has for a production whose entries begin at start, its children's counts and their ranks: a count of 1 and a rank of 0 past the last child.
+// The rank that the up table has for a production, whose entries begin at start, and a choice: its children's counts and ranks, a count of 1
+// and a rank of 0 past the last child. start is compared with the slice first, so that no sum wraps.
 pub fn read_up(up: &[u8], start: u64, counts: [u8; KIDS], ranks: [Plausible; KIDS]) -> UpRead
     ensures { λ r. ⌜ UpFinds (now (up .entry)) (up-number start counts (numbers ranks)) (up-said r) ⌝ }
 {

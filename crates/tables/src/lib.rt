@@ -1,4 +1,5 @@
 mod sets;
+mod labels;
 mod blocks;
 
 pub use blocks::block_size;

@@ -1,7 +1,6 @@
 -- The ones of a set of 64 bits are those in it.
-use native.Mathlib.Omega.{arith}
 use borrow.Author.Needs.{needs}
-use Rattle.tables.proofs.BitSets.{size-is}
+use Rattle.tables.proofs.SetMembers.{size-is}
 use Rattle.tables.proofs.blocks.block_size.Statement.{statement}
 use Rattle.tables.proofs.blocks.block_size.Tie as tie
 

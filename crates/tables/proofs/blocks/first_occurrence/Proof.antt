@@ -1,5 +1,5 @@
 -- The zeros below a set's lowest one are the numbers before its first.
-use Rattle.tables.proofs.BitSets.{first-is}
+use Rattle.tables.proofs.SetMembers.{first-is}
 use Rattle.tables.proofs.blocks.first_occurrence.Statement.{statement}
 use Rattle.tables.proofs.blocks.first_occurrence.Tie as tie
 

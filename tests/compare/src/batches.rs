@@ -1,0 +1,66 @@
+//! `trial` against the oracle: requests go in batches, answers are compared one by one.
+
+use crate::program::Program;
+use crate::show::difference;
+use crate::tally::Tally;
+use generate::requests::{framed, make};
+
+/// The answer at the front of an output: up to its dot, or all there is.
+fn cut(output: &str) -> (&str, &str) {
+    let end = if output.starts_with(".\n") { 2 } else { output.find("\n.\n").map_or(output.len(), |at| at + 3) };
+    output.split_at(end)
+}
+
+/// The program's answers to a batch, each compared with the oracle's; `name` tells the requests apart.
+pub fn compare(
+    program: &Program,
+    requests: &[Vec<u8>],
+    name: impl Fn(usize) -> String,
+    tally: &mut Tally,
+) -> Result<Vec<String>, String> {
+    let output = program.run(&framed(requests))?;
+    let output = String::from_utf8_lossy(&output);
+    let mut rest = &output[..];
+    let mut answers = Vec::new();
+    for (place, request) in requests.iter().enumerate() {
+        let expected = oracle::trial::answer(request);
+        let (found, after) = cut(rest);
+        if found != expected {
+            return Err(difference(&name(place), request, &expected, found));
+        }
+        tally.count(&expected);
+        answers.push(expected);
+        rest = after;
+    }
+    if !rest.is_empty() {
+        return Err(format!("trial writes on after its last answer: {:?}", &rest[..rest.len().min(200)]));
+    }
+    Ok(answers)
+}
+
+/// So many requests of a seed, in batches.
+pub fn run(program: &Program, seed: u64, count: u64, batch: u64, tally: &mut Tally) -> Result<(), String> {
+    for first in (0..count).step_by(batch as usize) {
+        let indices = first..count.min(first + batch);
+        let requests: Vec<_> = indices.map(|index| make(seed, index)).collect();
+        let name = |place: usize| format!("trial, seed {seed}, request {}", first + place as u64);
+        compare(program, &requests, name, tally)?;
+    }
+    Ok(())
+}
+
+/// Runs that end inside a request: the whole ones are answered, the rest is malformed.
+pub fn cut_runs(program: &Program, seed: u64, tally: &mut Tally) -> Result<(), String> {
+    let whole = framed(&[make(seed, 0), make(seed, 16)]);
+    let first = 4 + make(seed, 0).len();
+    for length in [0, 1, 3, 4, first, first + 2, first + 4, whole.len() - 1] {
+        let input = &whole[..length];
+        let (expected, found) = (oracle::trial::trial(input), program.run(input)?);
+        let found = String::from_utf8_lossy(&found);
+        if expected != found {
+            return Err(difference(&format!("trial, a run cut at {length}"), input, &expected, &found));
+        }
+        expected.split_inclusive(".\n").for_each(|answer| tally.count(answer));
+    }
+    Ok(())
+}

@@ -1,0 +1,8 @@
+//! Holds the programs `trial` and `groups` against the oracle, answer by answer.
+
+pub mod batches;
+pub mod inputs;
+pub mod program;
+pub mod show;
+pub mod swaps;
+pub mod tally;
