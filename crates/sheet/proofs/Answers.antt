@@ -8,8 +8,14 @@ use lib.ListN.{length, getD, take}
 use lib.Seq.{take-length}
 use Rattle.lists.specs.Refusals.{accepted, refused}
 use Rattle.chains.specs.Limits.{max-nodes, max-levels}
-use Rattle.book.specs.Format.{grammar, start}
+use Rattle.book.specs.Format.{grammar, kinds, prods, start}
 use Rattle.book.specs.Reading.{told}
+use Rattle.book.specs.Refusals.{BookDue}
+use Rattle.book.specs.Answer.{said as book-said}
+use Rattle.book.proofs.Accepted.{told-prods, accepted-book}
+use Rattle.book.proofs.Accepted as accepted-books
+use Rattle.book.specs.declared.Checked as book
+use Rattle.book.specs.declared.Checked.the-variants as book-answer
 use Rattle.sheet.specs.Answer.{said}
 use Rattle.sheet.specs.Reading.{Node, Read, begun, settings-of}
 use Rattle.sheet.specs.Refusals.{SheetDue}
@@ -19,10 +25,12 @@ use Rattle.sheet.specs.declared.SheetChecked.{SheetChecked}
 use Rattle.sheet.specs.declared.SheetChecked.the-variants.{Accepted, Refused}
 use Rattle.sheet.specs.declared.reader.Walk.{Walk}
 use Rattle.sheet.specs.declared.reader.Walk.the-variants as walk
-use Rattle.sheet.proofs.Legible.{legible}
-use Rattle.sheet.proofs.Refusals.{length-refused, stop-refused, read-accepted}
+use Rattle.sheet.proofs.Refusals.{book-refused, length-refused, stop-refused, read-accepted}
 use Rattle.sheet.proofs.Stops.{stop-unknown, stop-left}
-use Rattle.sheet.proofs.Walk.{told-prods}
+
+-- a book that no row refuses
+pub accepted-of : (b : List ℕ) → Sound b → accepted-books.Accepted b
+accepted-of b sound = accepted-book b (kinds b) (prods b) (refl, sound) .0
 
 -- an answer that is a refusal
 answered : (b l : List ℕ) {r : SheetChecked} {n p : ℕ} → r ≡ Refused n p → SheetDue b l (refused n p) → SheetDue b l (said r)
@@ -37,10 +45,10 @@ module _ {b l : List ℕ} {i s : ℕ} (h : Finished b l i s) where
   stopped e t = answered b l e (stop-refused (h .sound) (h .some) (h .standing .position .few-nodes) t)
 
   pub ended-unknown : {r : SheetChecked} → r ≡ Refused 21 i → i < length l → told b 2 ≤ getD l i 0 → SheetDue b l (said r)
-  ended-unknown e t m = stopped e (stop-unknown (h .nothing-due) (t, omega (arith, told-prods (h .standing .position .legible))))
+  ended-unknown e t m = stopped e (stop-unknown (h .nothing-due) (t, omega (arith, told-prods (h .standing .position .book))))
 
   pub ended-left : {r : SheetChecked} → r ≡ Refused 22 i → i < length l → getD l i 0 < told b 2 → SheetDue b l (said r)
-  ended-left e t m = stopped e (stop-left (h .nothing-due) t (omega (arith, told-prods (h .standing .position .legible))))
+  ended-left e t m = stopped e (stop-left (h .nothing-due) t (omega (arith, told-prods (h .standing .position .book))))
 
   pub ended-accepted : length l ≤ i → SheetDue b l (said (Accepted i s))
   ended-accepted m =
@@ -52,7 +60,7 @@ module _ {b l : List ℕ} {i s : ℕ} (h : Finished b l i s) where
 -- ── the tree from its root ──
 pub first-standing : (b l : List ℕ) → Sound b → length l ≤ max-nodes → Standing b l 0 0
 unfolding settings-of
-first-standing b l sound few = record { position = record { legible = legible b sound; few-nodes = few; within = omega arith }; sum = refl; low = omega arith }
+first-standing b l sound few = record { position = record { book = accepted-of b sound; few-nodes = few; within = omega arith }; sum = refl; low = omega arith }
 
 module _ {b l : List ℕ} {k : ℕ} {r : Walk} (sound : Sound b) (some : 0 < length l) (few : length l ≤ max-nodes)
     (root : k ≡ start b) (w : Walked b l 0 k max-levels r) where
@@ -68,3 +76,11 @@ module _ {b l : List ℕ} {k : ℕ} {r : Walk} (sound : Sound b) (some : 0 < len
   walk-refused {n} {p} e =
       let u : Past b l 0 k max-levels (walk.Stop n p) = subst (Past b l 0 k max-levels) e (w .case) in
       stop-refused sound some few (u 1 [] (omega arith) begins)
+
+-- ── what the check of the book answered ──
+module _ (b : List ℕ) {r : book.Checked} (d : BookDue b (book-said r)) where
+  pub book-sound : {kinds prods : ℕ} → r ≡ book-answer.Accepted kinds prods → Sound b
+  book-sound e = subst (λ (a : book.Checked). BookDue b (book-said a)) e d .1
+
+  pub book-stops : (l : List ℕ) {n p : ℕ} → r ≡ book-answer.Refused n p → SheetDue b l (refused n p)
+  book-stops l e = book-refused l (subst (λ (a : book.Checked). BookDue b (book-said a)) e d)

@@ -1,5 +1,4 @@
 pub mod Answers
-pub mod Legible
 pub mod Once
 pub mod Reading
 pub mod Refusals

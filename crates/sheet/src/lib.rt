@@ -86,3 +86,15 @@ fn read(book: &[u8], sheet: &[u8]) -> SheetChecked
         Walk::Next { at, settings } => ending(book, sheet, at, settings),
     }
 }
+
+pub fn check_sheet(book: &[u8], sheet: &[u8]) -> SheetChecked
+    ensures { λ r. ⌜ SheetDue (now (book .entry)) (now (sheet .entry)) (said r) ⌝ }
+{
+    match book::check_book(book) {
+        book::Checked::Refused { number, place } => SheetChecked::Refused { number, place },
+        book::Checked::Accepted {
+            kinds: _,
+            productions: _,
+        } => read(book, sheet),
+    }
+}

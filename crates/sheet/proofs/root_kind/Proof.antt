@@ -1,7 +1,7 @@
 use mathlib.Core.Path.{_∙_}
 use native.Mathlib.Omega.{arith}
-use Rattle.sheet.proofs.Legible.{legible}
-use Rattle.sheet.proofs.Walk.{told-start}
+use Rattle.book.proofs.Accepted.{told-start}
+use Rattle.sheet.proofs.Answers.{accepted-of}
 use borrow.Author.Needs.{needs}
 use Rattle.sheet.proofs.root_kind.Statement.{statement}
 use Rattle.sheet.proofs.root_kind.Tie as tie
@@ -16,12 +16,12 @@ start-requires c κs = search needs
 -- src/lib.rt:52:5
 cast-result : tie.Need-cast-result
 cast-result c =
-    let h = legible (c .before .before .args .book .now) (c .before .before .pre) in
-    record { fits = omega (arith, told-start h, h .start-low) }
+    let h = accepted-of (c .before .before .args .book .now) (c .before .before .pre) in
+    record { fits = omega (arith, told-start h, h .lawful .start-in, h .few-kinds) }
 
 -- src/lib.rt:48:1
 returns : tie.Need-returns
-returns c = c .start .ensures ∙ told-start (legible (c .before .before .args .book .now) (c .before .before .pre))
+returns c = c .start .ensures ∙ told-start (accepted-of (c .before .before .args .book .now) (c .before .before .pre))
 
 pub root-kind-spec : {M : Type 1} → statement M
 root-kind-spec = tie.close (tie.spec start-requires cast-result returns)

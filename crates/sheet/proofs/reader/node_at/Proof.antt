@@ -1,7 +1,8 @@
 use mathlib.Core.Path.{sym, _∙_}
 use native.Mathlib.Omega.{arith}
 use borrow.Author.Needs.{needs}
-use Rattle.sheet.proofs.Walk.{told-prods, indexed, found-end, found-unknown, found-kind, found-deep, found-fit}
+use Rattle.book.proofs.Accepted.{told-prods}
+use Rattle.sheet.proofs.Walk.{indexed, found-end, found-unknown, found-kind, found-deep, found-fit}
 use Rattle.sheet.proofs.reader.node_at.Statement.{statement}
 use Rattle.sheet.proofs.reader.node_at.Tie as tie
 use Rattle.sheet.proofs.reader.node_at.Reads as reads
@@ -50,7 +51,7 @@ mul-entry c = search needs
 
 -- src/reader.rt:61:17
 element-copy-out-entry : tie.Need-element-copy-out-entry
-element-copy-out-entry c = omega (arith, told-prods (c .before .before .before .before .before .before .before .before .pre .0 .legible), c .before .before .before .before .before .before .before .before .pre .0 .legible .few-prods)
+element-copy-out-entry c = omega (arith, told-prods (c .before .before .before .before .before .before .before .before .pre .0 .book), c .before .before .before .before .before .before .before .before .pre .0 .book .few-prods)
 
 -- src/reader.rt:62:8
 left-requires : tie.Need-left-requires
