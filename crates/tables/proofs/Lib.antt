@@ -14,3 +14,4 @@ pub mod SetMembers
 pub mod Carried
 pub mod StateBase
 pub mod StateWalk
+pub mod StateEntry

@@ -10,11 +10,12 @@ use borrow.Author.Tests.{eq-eqb, ne-eqb, eqb-true, eqb-false}
 use lib.Dec.{eqb, ltb}
 use lib.ListN.{length, getD, length-append, List·getD-eq-default}
 use Rattle.lists.specs.Pick.{pick}
-use Rattle.chains.specs.Grammar.{Occ, Grammar, slots, width, Exists}
+use Rattle.chains.specs.Grammar.{Occ, Grammar, Exists}
 use Rattle.chains.specs.Grouping.{Proper}
 use Rattle.chains.specs.Labels.{index, add, canonFrom, canon}
 use Rattle.chains.proofs.Appearance.{index-le, length-canon, canon-iff, canon-proper, proper-le}
 use Rattle.book.specs.Format.{occ}
+use Rattle.book.proofs.Decided.{exists-decided}
 use Rattle.ranks.specs.Entries.{labels, none}
 use Rattle.tables.specs.Entries.{kept, Labelled}
 use Rattle.tables.specs.State.{Present, Same, Low, State, tidyFrom, tidied}
@@ -149,14 +150,6 @@ tidy-once {s} {t} hs ht there same = labels-once (tidied s) (tidied t) gaps (tid
         )
 
 -- ---- what a down entry holds
-pub exists-decided : (G : Grammar) (p : ℕ) (o : Occ) → Dec (Exists G p o)
-exists-decided G p o = go (decLt (o .0) (length (slots G p))) (decLt (o .1) (width G p (o .0)))
-  where
-    go : Dec (o .0 < length (slots G p)) → Dec (o .1 < width G p (o .0)) → Dec (Exists G p o)
-    go (yes h) (yes l) = yes (h, l)
-    go (yes h) (no l) = no (λ e. l (e .1))
-    go (no h) l = no (λ e. h (e .0))
-
 module _ (G : Grammar) (p : ℕ) (R : Occ → Occ → Type 0) where
   -- THEOREM: a state of a production's occurrences, with R's groups, is labelled once it is tidied
   pub tidy-labelled : {s : List ℕ} → State s → ((o : ℕ) → o < labels → Present s o ↔ Exists G p (occ o))

@@ -16,12 +16,13 @@ use Rattle.chains.proofs.Says.{says-unique, says-map}
 use Rattle.chains.proofs.Gather.{result-map, up-none, up-more, towards-none, towards-skip, towards-more}
 use Rattle.chains.proofs.State.{code-says}
 use Rattle.chains.proofs.Tying.{tied-shown, turned}
-use Rattle.book.specs.Format.{occ, entry, grammar}
+use Rattle.book.specs.Format.{occ, prods, entry, grammar}
+use Rattle.book.proofs.Accepted.{Accepted}
 use Rattle.ranks.specs.Entries.{labels, none}
 use Rattle.tables.specs.State.{Present, Same, State, spot, Whole, tidied, based}
 use Rattle.tables.proofs.State.{tie-means, forget-state, forget-present}
 use Rattle.tables.proofs.StateTidy.{tidy-state, tidy-present, tidy-same}
-use Rattle.tables.proofs.StateBase.{Grounds, base-state, base-present, base-chains}
+use Rattle.tables.proofs.StateBase.{few-settings, base-present, base-chains}
 
 -- a tidied state shows what it showed
 pub tidy-shown : {s : List ℕ} → State s → (o q : Occ) → Shown (tidied s) o q ↔ Shown s o q
@@ -136,13 +137,14 @@ towards-turn G p t {s} st j h n hj hw w Codes x =
     )
 
 -- ---- the base of a production
-module _ {b : List ℕ} {p : ℕ} (g : Grounds b p) where
+module _ {b : List ℕ} (a : Accepted b) (p : ℕ) (l : p < prods b) where
   -- every setting of every slot is there
-  pub base-whole : (t : ℕ) → t < length (slots (grammar b) p) → width (grammar b) p t ≤ max-settings → Whole (based b (entry b p)) t (width (grammar b) p t)
-  base-whole t ht hw x hx =
+  pub base-whole : (t : ℕ) → t < length (slots (grammar b) p) → Whole (based b (entry b p)) t (width (grammar b) p t)
+  base-whole t ht x hx =
+      let w = few-settings a p l t ht in
       let d : spot t x / max-settings ≡ t = omega arith in
       let m : spot t x % max-settings ≡ x = omega arith in
-      base-present g (spot t x) .1 (rw d ht, rw (d, m) hx)
+      base-present a p l (spot t x) .1 (rw d ht, rw (d, m) hx)
 
   -- THEOREM: the base stands for the production's dependences
   pub base-result : (t : ℕ) (Codes : ℕ → ℕ → Type 0) (Open : ℕ → Type 0) (x : ℕ)
@@ -153,7 +155,7 @@ module _ {b : List ℕ} {p : ℕ} (g : Grounds b p) where
   )
     where
       to : (o q : Occ) → Shown (based b (entry b p)) o q → Eqv (Tied (grammar b) p) o q
-      to o q h = base-chains g o q .0 (fwd done h)
+      to o q h = base-chains a p l o q .0 (fwd done h)
 
       from : (o q : Occ) → Tied (grammar b) p o q → Eqv (Shown (based b (entry b p))) o q
-      from o q h = base-chains g o q .1 (fwd done h)
+      from o q h = base-chains a p l o q .1 (fwd done h)

@@ -11,8 +11,9 @@ ghost use Rattle.chains.specs.Limits.{max-settings, max-kids};
 ghost use Rattle.chains.specs.Grouping.{label};
 ghost use Rattle.chains.specs.Labels.{swap, relabel, joinAt, joins};
 ghost use Rattle.chains.specs.State.{code-pairs, dropped, code-on};
+ghost use Rattle.book.specs.Search.{Tells};
 ghost use Rattle.ranks.specs.Entries.{labels, none};
-ghost use Rattle.tables.specs.State.{Low, State, Whole, Readable, kind-in, width-in, own, apart, based, Numbered, Renumbered, tidied, Tells};
+ghost use Rattle.tables.specs.State.{Low, State, Whole, Readable, width-in, own, apart, based, Numbered, Renumbered, tidied};
 
 // Settings to a slot, and slots to a production: what an occurrence number counts.
 pub const SETTINGS: usize = 8;
@@ -62,17 +63,6 @@ pub fn merge(s: &mut [u8; LABELS], i: usize, j: usize)
 
 // ---- a production's own occurrences and pairs
 
-// The kind of a slot.
-fn kind(book: &[u8], at: usize, slot: u8) -> u8
-    ensures { λ r. ⌜ r ≡ kind-in (now (book .entry)) at slot ⌝ }
-{
-    if slot == 0 {
-        book::left(book, at)
-    } else {
-        book::kid(book, at, slot - 1)
-    }
-}
-
 // The number of settings in a slot.
 pub fn width(book: &[u8], at: usize, slot: u8) -> u8
     ensures { λ r. ⌜ r ≡ width-in (now (book .entry)) at slot ⌝ }
@@ -80,7 +70,7 @@ pub fn width(book: &[u8], at: usize, slot: u8) -> u8
     if book::arity(book, at) < slot {
         return 0;
     }
-    book::settings(book, kind(book, at, slot))
+    book::settings(book, book::kind_in(book, at, slot))
 }
 
 // An occurrence's own number, if it exists.
@@ -256,7 +246,7 @@ pub fn view(s: &[u8; LABELS], slot: u8, a: u8) -> u32
 // Whether the labels stand in t, from a place on.
 pub fn same_state(s: &[u8; LABELS], t: &[u8], from: usize) -> bool
     requires { ⌜ (length (now s) ≡ labels) × (from + labels ≤ length (now t)) ⌝ }
-    ensures { λ r. ⌜ Tells r (part from labels (now (t .entry)) ≡ now (s .entry)) ⌝ }
+    ensures { λ r. ⌜ Tells (part from labels (now (t .entry)) ≡ now (s .entry)) r ⌝ }
 {
     let mut o = 0;
     while o < LABELS {
