@@ -266,7 +266,7 @@ module _ (G : Grammar) (T : Tables) where
           let occs = in-slot 0 0 w in
           let e : hs ≡ map (λ o. (label-of G T here o, num (setting n cs o))) occs
           = ap₂ held (own-labels G T here 0 0 w) (own-numbers ∙ sym (ap (map num) (own-settings n cs w)) ∙ map-map num (setting n cs) occs)
-            ∙ held-map (label-of G T here) (λ o. num (setting n cs o)) occs in
+          ∙ held-map (label-of G T here) (λ o. num (setting n cs o)) occs in
           rw (append-nil occs, e) (keeps-map (label-of G T here) (λ o. num (setting n cs o)) occs)
 
     -- which occurrences of node i's production are alike: those to which its entry gives one label
@@ -296,13 +296,13 @@ module _ (G : Grammar) (T : Tables) where
         let inside = walked-children p cs rest n φ owns k below h in
         let given-them : map (λ o. num (setting n cs o)) os ≡ numbered hs k (map (label-of G T e) os)
         = sym (map-map num (setting n cs) os) ∙ ap (map num) (kid-settings G n p cs below)
-          ∙ sym (owns-are cs (G .kids p) (suc n) (given T e) (numbered hs k xs) (unused hs k xs) below inside) ∙ ap (numbered hs k) (all-labels G T e 1 (G .kids p)) in
+        ∙ sym (owns-are cs (G .kids p) (suc n) (given T e) (numbered hs k xs) (unused hs k xs) below inside) ∙ ap (numbered hs k) (all-labels G T e 1 (G .kids p)) in
         let by-rule = numbered-rule (label-of G T e) (λ o. num (setting n cs o)) os (occurrences G 0 (G .left p ∷ [])) hs k (own-keeps p cs rest n φ owns k below h) given-them in
         let first : getD next n 0 ≡ k = turns-first next n (grow p cs rest) φ owns k (h .turn) in
         let second : getD next (suc n) 0 ≡ unused hs k (map (label-of G T e) os)
         = turns-first next (suc n) cs (given T e) (numbered hs k xs) (unused hs k xs) (inside .turn) ∙ ap (unused hs k) (all-labels G T e 1 (G .kids p)) in
         rw (first, second) (subst (λ t. Numbers (λ o o′. label-of G T t o ≡ label-of G T t o′) (λ o. num (setting n cs o)) (occurrences G 0 (G .left p ∷ [])) k os (unused hs k (map (label-of G T e) os)))
-          (sym (parts G T nodes p cs rest n φ (h .told) .entry)) by-rule)
+        (sym (parts G T nodes p cs rest n φ (h .told) .entry)) by-rule)
 
     -- and so at every node of the forest
     pub nodes-numbered : (f : Bush) (ks : List ℕ) (n : ℕ) (φ : ℕ → ℕ) (owns : List ℕ) (k : ℕ) → Kinded G f ks → Walked f n φ owns k → (i q : ℕ) (ds : Bush) → Sub f n i q ds
@@ -381,23 +381,23 @@ module _ (G : Grammar) (T : Tables) (k p : ℕ) (cs : Bush) (kinded : Kinded G (
         let labels : asked-first ≡ map (label-of G T e) os = own-labels G T e 0 0 w in
         let given-them : map (λ o. number (setting 0 cs o)) os ≡ numbered [] 0 (map (label-of G T e) os)
         = sym (map-map number (setting 0 cs) os) ∙ ap (map number) (own-settings 0 cs w ∙ sym (append-nil os))
-          ∙ sym (owns-are G T sheet nodes groups next tree (k ∷ []) 0 (started G T tree) (first-numbers G T tree) (first-next G T tree) kinded walked) ∙ ap (numbered [] 0) labels in
+        ∙ sym (owns-are G T sheet nodes groups next tree (k ∷ []) 0 (started G T tree) (first-numbers G T tree) (first-next G T tree) kinded walked) ∙ ap (numbered [] 0) labels in
         let none-kept : Keeps (label-of G T e) (λ o. number (setting 0 cs o)) [] [] = keeps-map (label-of G T e) (λ o. number (setting 0 cs o)) [] in
         let by-rule = numbered-rule (label-of G T e) (λ o. number (setting 0 cs o)) os [] [] 0 none-kept given-them in
         let first : getD next 0 0 ≡ unused [] 0 (map (label-of G T e) os)
         = turns-first G T next 0 tree (started G T tree) (first-numbers G T tree) (first-next G T tree) (walked .turn) ∙ ap (unused [] 0) labels in
         rw (append-nil os, first)
         (subst (λ t. Numbers (λ o o′. label-of G T t o ≡ label-of G T t o′) (λ o. number (setting 0 cs o)) [] 0 os (unused [] 0 (map (label-of G T e) os)))
-          (sym (parts G T nodes p cs nil 0 (started G T tree) told .entry)) by-rule)
+        (sym (parts G T nodes p cs nil 0 (started G T tree) told .entry)) by-rule)
 
     one-tree-numbered : rule.Numbered G tree (Like G T sheet nodes groups next) number (next-at G T tree)
     unfolding next-at
     one-tree-numbered = record {
       top = λ q ds s.
-        let (eq, ed) = sub-one tree 0 0 p q cs ds (inl (refl, refl, refl)) s in
-        subst₂ (λ q ds. Numbers (Like G T sheet nodes groups next 0) (λ o. number (setting 0 ds o)) [] 0 (occurrences G 0 (G .left q ∷ [])) (next-at G T tree 0)) eq ed root-numbers;
+          let (eq, ed) = sub-one tree 0 0 p q cs ds (inl (refl, refl, refl)) s in
+          subst₂ (λ q ds. Numbers (Like G T sheet nodes groups next 0) (λ o. number (setting 0 ds o)) [] 0 (occurrences G 0 (G .left q ∷ [])) (next-at G T tree 0)) eq ed root-numbers;
       below = λ i q ds s.
-        nodes-numbered G T sheet nodes groups next tree (k ∷ []) 0 (started G T tree) (first-numbers G T tree) (first-next G T tree) kinded walked i q ds s;
+          nodes-numbered G T sheet nodes groups next tree (k ∷ []) 0 (started G T tree) (first-numbers G T tree) (first-next G T tree) kinded walked i q ds s;
     }
 
 -- THEOREM: a call that leaves in its slices what the walk by the tables T gives has numbered the settings of its tree in walk order, occurrences being alike

@@ -36,7 +36,7 @@ all-settings G node s (grow p cs rest) (x ∷ ks) n k h =
     let later : (j m : ℕ) → Root rest (suc (n + size cs)) j m → node (suc s + j) ≡ m = λ j m r. let z : s + suc j ≡ suc s + j = omega arith in rw z at (h (suc j) m r) in
     map-append (λ (o : Occ). (node (o .0), o .1)) (in-slot s 0 (G .settings x)) (occurrences G (suc s) ks)
     ∙ ap₂ _++_ (slot-settings node s n 0 (G .settings x) e ∙ ap (λ t. in-slot n 0 (G .settings t)) (sym (k .0 .1)))
-      (all-settings G node (suc s) rest ks (suc (n + size cs)) (k .2) later)
+    (all-settings G node (suc s) rest ks (suc (n + size cs)) (k .2) later)
 
 -- the occurrences of node i's children are the settings of its children, one child after another
 pub kid-settings : (G : Grammar) (i q : ℕ) (ds : Bush) → Kinded G ds (G .kids q) → map (setting i ds) (occurrences G 1 (G .kids q)) ≡ root-settings G ds (suc i)

@@ -38,12 +38,14 @@ pub record Keeps {O : Type 0} (lab num : O → ℕ) (os : List O) (hs : List Hel
 module _ {O : Type 0} (lab num : O → ℕ) where
   keeps-more : (o : O) (os : List O) (hs : List Held) (n : ℕ) → num o ≡ n → Keeps lab num os hs → Keeps lab num (o ∷ os) (hs ++ (lab o, n) ∷ [])
   keeps-more o os hs n e k = record {
-    all = λ q m. elim (List·Memᴰ·cases-cons m)
-      [ inl eq ↦ Memᴰ·append-right hs (List·Memᴰ·head (rw (eq, e)))
-      | inr m′ ↦ Memᴰ·append-left ((lab o, n) ∷ []) (k .all q m′) ];
-    only = λ h m. elim (List·Memᴰ·append-cases hs m)
-      [ inl m′ ↦ (let (q, mq, eq) = k .only h m′ in (q, List·Memᴰ·tail mq, eq))
-      | inr m′ ↦ (o, List·Memᴰ·head refl, last h m′) ];
+    all = λ q m. elim (List·Memᴰ·cases-cons m) [
+      | inl eq ↦ Memᴰ·append-right hs (List·Memᴰ·head (rw (eq, e)))
+      | inr m′ ↦ Memᴰ·append-left ((lab o, n) ∷ []) (k .all q m′)
+    ];
+    only = λ h m. elim (List·Memᴰ·append-cases hs m) [
+      | inl m′ ↦ (let (q, mq, eq) = k .only h m′ in (q, List·Memᴰ·tail mq, eq))
+      | inr m′ ↦ (o, List·Memᴰ·head refl, last h m′)
+    ];
   }
     where
       last : (h : Held) → List·Memᴰ h ((lab o, n) ∷ []) → h ≡ (lab o, num o)
@@ -62,8 +64,8 @@ module _ {O : Type 0} (lab num : O → ℕ) where
 
       go : Holder (lab o) hs n
           → ((n′ : ℕ) → Keeps lab num (o ∷ earlier) (hs ++ (lab o, holder (lab o) hs n) ∷ [])
-            → map num os ≡ numbered (hs ++ (lab o, holder (lab o) hs n) ∷ []) n′ (map lab os)
-            → Numbers (λ o o′. lab o ≡ lab o′) num (o ∷ earlier) n′ os (unused (hs ++ (lab o, holder (lab o) hs n) ∷ []) n′ (map lab os)))
+          → map num os ≡ numbered (hs ++ (lab o, holder (lab o) hs n) ∷ []) n′ (map lab os)
+          → Numbers (λ o o′. lab o ≡ lab o′) num (o ∷ earlier) n′ os (unused (hs ++ (lab o, holder (lab o) hs n) ∷ []) n′ (map lab os)))
           → Numbers (λ o o′. lab o ≡ lab o′) num earlier n (o ∷ os) (unused (hs ++ (lab o, holder (lab o) hs n) ∷ []) (pick (holds (lab o) hs) n (suc n)) (map lab os))
       go (one h m el en ey) later =
           let (q, mq, eh) = k .only h m in
@@ -84,7 +86,8 @@ module _ {O : Type 0} (lab num : O → ℕ) where
       let k = keeps-map os in
       record {
         all = λ q m. elim (List·Memᴰ·cases-cons m) [ inl e ↦ List·Memᴰ·head (ap (λ t. (lab t, num t)) e) | inr m′ ↦ List·Memᴰ·tail (k .all q m′) ];
-        only = λ h m. elim (List·Memᴰ·cases-cons m)
-          [ inl e ↦ (o, List·Memᴰ·head refl, e)
-          | inr m′ ↦ (let (q, mq, eq) = k .only h m′ in (q, List·Memᴰ·tail mq, eq)) ];
+        only = λ h m. elim (List·Memᴰ·cases-cons m) [
+          | inl e ↦ (o, List·Memᴰ·head refl, e)
+          | inr m′ ↦ (let (q, mq, eq) = k .only h m′ in (q, List·Memᴰ·tail mq, eq))
+        ];
       }

@@ -1,0 +1,4 @@
+pub mod Build
+pub mod Sets
+pub mod Groups
+pub mod Replaced
