@@ -46,7 +46,7 @@ fault-applies {p = p} {ds = []} r (deep u) = absurd u
 fault-applies {p = p} {ds = d ∷ ds} r (deep u) = too-deep p (d .0) (d .1) ds r (u .0) (u .1)
 
 -- ── numbers and turns ──
-book-low : {b : List ℕ} {n p : ℕ} → book.Applies b n p → n < 20
+pub book-low : {b : List ℕ} {n p : ℕ} → book.Applies b n p → n < 20
 book-low (book.short h) = omega arith
 book-low (book.other-edition h) = omega arith
 book-low (book.out-of-range h) = omega arith
@@ -56,7 +56,7 @@ book-low (book.bad-kids p h q) = omega arith
 book-low (book.bad-ties p h q) = omega arith
 book-low (book.headless k h q) = omega arith
 
-fault-high : {G : Grammar} {l : List ℕ} {i n : ℕ} {ds : List Node} → Fault G l i ds n → 20 < n
+pub fault-high : {G : Grammar} {l : List ℕ} {i n : ℕ} {ds : List Node} → Fault G l i ds n → 20 < n
 fault-high (unknown u) = omega arith
 fault-high (unfit u) = omega arith
 fault-high (deep u) = omega arith

@@ -16,6 +16,7 @@ use Rattle.tables.specs.Entries.{Ranked, UpTable, Labelled, DownEntry, D
 use Rattle.tables.specs.Promise.{up-entries, down-entries, Written}
 use Rattle.tables.specs.Memory.{Fine}
 use Rattle.tables.proofs.Members.{rank-once}
+use Rattle.tables.proofs.StateTidy.{labelled-once}
 use Rattle.tables.proofs.Memory.{fine-placed}
 
 -- a list that is pinned below n, and as it was from n on, is pinned
@@ -43,11 +44,7 @@ module _ (G : Grammar) (left-in : (p : ℕ) → p < G .prods → G .left p < G .
       rw (← e .made) (ranked-once f (left-in (e .prod) (e .prod-below)) (t (e .prod) (e .ranks) (e .prod-below) (e .below)) (t′ (e .prod) (e .ranks) (e .prod-below) (e .below)))
 
 -- ── the down table ──
--- labels by first appearance are pinned by what they relate
-abbrev pub LabelledOnce : Type 1
-LabelledOnce = (G : Grammar) (p : ℕ) (R : Occ → Occ → Type 0) (l l′ : List ℕ) → Labelled G p R l → Labelled G p R l′ → l ≡ l′
-
-module _ (labelled-once : LabelledOnce) (G : Grammar) (kids-in : (p j : ℕ) → p < G .prods → j < length (G .kids p) → getD (G .kids p) j 0 < G .kinds)
+module _ (G : Grammar) (kids-in : (p j : ℕ) → p < G .prods → j < length (G .kids p) → getD (G .kids p) j 0 < G .kinds)
     {Q : ℕ → ℕ → Type 0} {f d : List ℕ} (g : Fine (G .kinds) Q f d) where
   module _ {p : ℕ} (below : p < G .prods) {R : Occ → Occ → Type 0} {l l′ : List ℕ} (e : DownEntry G p f d R l) (e′ : DownEntry G p f d R l′) where
     label-once : (o : ℕ) → o < labels → getD l o none ≡ getD l′ o none

@@ -14,7 +14,7 @@ use Rattle.ranks.specs.Entries.{entry-bytes}
 use Rattle.tables.specs.Entries.{UpTable, DownTable}
 use Rattle.tables.specs.Promise.{Lent, up-entries, down-entries, Applies, of-book, short-slice, left-by, Written, Built, BuildDue}
 use Rattle.tables.proofs.Holds.{holds-fine, holds-once}
-use Rattle.tables.proofs.Entries.{LabelledOnce, written-once, up-once, down-once}
+use Rattle.tables.proofs.Entries.{written-once, up-once, down-once}
 
 -- ── what it means that no refusal applies ──
 module _ {b : List ℕ} {m : Lent} (free : (n p : ℕ) → Applies b m n p → ⊥) where
@@ -49,7 +49,7 @@ lent-same m m′ a b c d e f =
     ≡ lent (m′ .plausible) (m′ .plausible-counts) (m′ .feasible) (m′ .feasible-counts) (m′ .up) (m′ .down) = rw (a, b, c, d, e, f) in
     w
 
-module _ (labelled-once : LabelledOnce) {b : List ℕ} {m m₁ m₂ : Lent} {cs ds : List ℕ} (free : (n p : ℕ) → Applies b m n p → ⊥)
+module _ {b : List ℕ} {m m₁ m₂ : Lent} {cs ds : List ℕ} (free : (n p : ℕ) → Applies b m n p → ⊥)
     (u : Built (grammar b) m m₁ cs) (v : Built (grammar b) m m₂ ds) where
   same-plausible : (m₁ .plausible ≡ m₂ .plausible) × (m₁ .plausible-counts ≡ m₂ .plausible-counts)
   same-plausible = holds-once (plausible-there free) (plausible-here free) (u .plausible) (v .plausible)
@@ -73,7 +73,7 @@ module _ (labelled-once : LabelledOnce) {b : List ℕ} {m m₁ m₂ : Lent} {cs 
       let table = subst₂ (λ f d. DownTable (grammar b) (m₁ .plausible) (m₁ .plausible-counts) f d (m₂ .down)) (sym f) (sym d) half in
       let rest = subst₂ (λ c d. Written (down-entries (grammar b) c d * entry-bytes) (m .down) (m₂ .down)) (sym c) (sym d) (v .down-rest) in
       written-once (u .down-rest) rest
-      (down-once labelled-once (grammar b) (kid-below free) (holds-fine (feasible-there free) (feasible-here free) (u .feasible))
+      (down-once (grammar b) (kid-below free) (holds-fine (feasible-there free) (feasible-here free) (u .feasible))
       (m₁ .plausible) (m₁ .plausible-counts) (m₁ .down) (m₂ .down) (u .down) table)
 
   same-memory : m₁ ≡ m₂
@@ -98,11 +98,11 @@ same-refusal {b} {m} {n} {p} {n′} {p′} f g =
     turn-numbers n p n′ p′ (first-once book.turn (λ f. Applies b m (f .0) (f .1)) (λ j k. refl) (n, p) (n′, p′) f g)
 
 -- THEOREM: two outcomes that keep the promise of the build are the same answer and leave the same memory
-pub build-once : LabelledOnce → (b : List ℕ) (m : Lent) (a a′ : Said) (m₁ m₂ : Lent) → BuildDue b m a m₁ → BuildDue b m a′ m₂ → (a ≡ a′) × (m₁ ≡ m₂)
-build-once labelled-once b m (accepted cs) (accepted ds) m₁ m₂ (free, u) (free′, v) =
-    (ap accepted (same-entries labelled-once free u v), same-memory labelled-once free u v)
-build-once labelled-once b m (accepted cs) (refused n p) m₁ m₂ (free, u) (f, e) = absurd (free n p (f .0))
-build-once labelled-once b m (refused n p) (accepted cs) m₁ m₂ (f, e) (free, u) = absurd (free n p (f .0))
-build-once labelled-once b m (refused n p) (refused n′ p′) m₁ m₂ (f, e) (f′, e′) =
+pub build-once : (b : List ℕ) (m : Lent) (a a′ : Said) (m₁ m₂ : Lent) → BuildDue b m a m₁ → BuildDue b m a′ m₂ → (a ≡ a′) × (m₁ ≡ m₂)
+build-once b m (accepted cs) (accepted ds) m₁ m₂ (free, u) (free′, v) =
+    (ap accepted (same-entries free u v), same-memory free u v)
+build-once b m (accepted cs) (refused n p) m₁ m₂ (free, u) (f, e) = absurd (free n p (f .0))
+build-once b m (refused n p) (accepted cs) m₁ m₂ (f, e) (free, u) = absurd (free n p (f .0))
+build-once b m (refused n p) (refused n′ p′) m₁ m₂ (f, e) (f′, e′) =
     let (q, w) = same-refusal f f′ in
     (ap₂ refused q w, e ∙ ap (λ (n : ℕ). left-by n m) q ∙ sym e′)

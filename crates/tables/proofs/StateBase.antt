@@ -1,23 +1,20 @@
 -- The base grouping of a production as a state: its occurrences are there, and its dependences are what stands in one group.
-use mathlib.Core.Path.{_≡_, refl, sym, ap, ap₂, _∙_, subst, subst₂}
-use mathlib.Core.Logic.{_⊎_, inl, inr, _↔_}
+use mathlib.Core.Path.{_≡_, refl, sym, ap, _∙_, subst, subst₂}
+use mathlib.Core.Logic.{inl, inr, _↔_}
 use mathlib.Core.List.{List, [], _∷_}
-use Prim.Native.Nat.{ℕ, zero, suc, _+_, _-_, _*_, _/_, _%_, _≤_, _<_}
+use Prim.Native.Nat.{ℕ, zero, suc, _+_, _*_, _/_, _%_, _≤_, _<_}
 use native.Mathlib.Omega.{arith}
 use native.Mathlib.Decide.{decLt}
 use borrow.Author.Tests.{lt-ltb, le-ltb}
-use lib.Dec.{ltb}
 use lib.ListN.{length, getD, List·getD-eq-default}
-use Rattle.lists.specs.Pick.{pick}
 use Rattle.chains.specs.Limits.{max-settings, max-kids}
-use Rattle.chains.specs.Grammar.{Occ, Tie, Grammar, slots, width, Exists, Named, Tied, Lawful}
+use Rattle.chains.specs.Grammar.{Occ, Tie, Grammar, slots, width, Exists, Named, Tied}
 use Rattle.chains.specs.Chain.{Eqv, done, fwd, Slotwise, Join, Closure}
-use Rattle.chains.specs.Labels.{joins}
 use Rattle.chains.specs.State.{number, numbers, Shown}
 use Rattle.chains.proofs.Closure.{more}
 use Rattle.chains.proofs.Labels.{Ends, keeps, length-labels, labels-at}
 use Rattle.chains.proofs.State.{getD-any, base-shown, ties-numbered}
-use Rattle.book.specs.Format.{occ, prods, entry, arity-at, trailer, grammar}
+use Rattle.book.specs.Format.{occ, prods, entry, arity-at, grammar}
 use Rattle.book.specs.Reading.{kind-in}
 use Rattle.book.proofs.Decided.{exists-decided}
 use Rattle.book.proofs.Accepted.{Accepted, settings-read, arity-read, kind-in-read, pairs-read, inside, to-low, from-low}
@@ -78,17 +75,17 @@ module _ {b : List ℕ} (a : Accepted b) (p : ℕ) (l : p < prods b) where
 
   -- and the others none
   has-none : (o : ℕ) → (Exists G p (occ o) → ⊥) → getD (apart b at) o none ≡ none
-  has-none o n = elim (decLt o labels) [ yes h ↦ apart-at o h ∙ missing (decLt (arity-at b at) (o / max-settings)) | no h ↦ List·getD-eq-default (apart b at) none (omega (arith, apart-long)) ]
+  has-none o n = elim (decLt o labels) [ yes h ↦ apart-at o h ∙ missing | no h ↦ List·getD-eq-default (apart b at) none (omega (arith, apart-long)) ]
     where
-      missing : Dec (arity-at b at < o / max-settings) → own b at o ≡ none
-      missing (yes k) =
-          let w : width-in b at (o / max-settings) ≤ o % max-settings = omega (arith, no-width (o / max-settings) k) in
-          rw (le-ltb (o % max-settings) (width-in b at (o / max-settings)) w)
-      missing (no k) =
-          let e = width-is (o / max-settings) (omega arith) in
-          let w : width-in b at (o / max-settings) ≤ o % max-settings =
-              elim (decLt (o % max-settings) (width G p (o / max-settings))) [ yes m ↦ absurd (n (omega (arith, arity-read a p l), m)) | no m ↦ omega arith ] in
-          rw (le-ltb (o % max-settings) (width-in b at (o / max-settings)) w)
+      short : Dec (arity-at b at < o / max-settings) → Dec (o % max-settings < width G p (o / max-settings)) → width-in b at (o / max-settings) ≤ o % max-settings
+      short (yes k) d = omega (arith, no-width (o / max-settings) k)
+      short (no k) (yes m) = absurd (n (omega (arith, arity-read a p l), m))
+      short (no k) (no m) = let e = width-is (o / max-settings) (omega arith) in omega arith
+
+      missing : own b at o ≡ none
+      missing =
+          rw (le-ltb (o % max-settings) (width-in b at (o / max-settings))
+          (short (decLt (arity-at b at) (o / max-settings)) (decLt (o % max-settings) (width G p (o / max-settings)))))
 
   apart-present : (o : ℕ) → Present (apart b at) o ↔ Exists G p (occ o)
   apart-present o = (

@@ -1,6 +1,6 @@
 -- A production's slots tied one after another: the state comes to show the closure of the dependences and of every slot's code, which is what an
 -- entry of the tables is made of.
-use mathlib.Core.Path.{_≡_, refl, sym, ap, _∙_, subst, subst₂}
+use mathlib.Core.Path.{_≡_, sym, _∙_, subst, subst₂}
 use mathlib.Core.Logic.{_⊎_, inl, inr, _↔_}
 use mathlib.Core.List.{List, _∷_}
 use Prim.Native.Nat.{ℕ, zero, suc, _+_, _*_, _/_, _%_, _≤_, _<_}
@@ -13,7 +13,7 @@ use Rattle.chains.specs.Chain.{Eqv, done, fwd, Slotwise, Join, Closure}
 use Rattle.chains.specs.Grouping.{Says, Alike, Each}
 use Rattle.chains.specs.Feasible.{Chosen}
 use Rattle.chains.specs.Labels.{joins}
-use Rattle.chains.specs.Gather.{TiedTo, InSlot}
+use Rattle.chains.specs.Gather.{TiedTo}
 use Rattle.chains.specs.State.{number, Shown, code-on, code-pairs}
 use Rattle.chains.proofs.Closure.{bind, more}
 use Rattle.chains.proofs.Labels.{keeps}
@@ -22,12 +22,12 @@ use Rattle.chains.proofs.State.{code-says}
 use Rattle.chains.proofs.Tying.{tied-shown}
 use Rattle.book.specs.Format.{occ, prods, entry, grammar}
 use Rattle.book.proofs.Accepted.{Accepted}
-use Rattle.ranks.specs.Entries.{labels, none}
+use Rattle.ranks.specs.Entries.{none}
 use Rattle.tables.specs.Entries.{Labelled}
 use Rattle.tables.specs.State.{Present, Same, State, spot, Whole, tidied, based}
 use Rattle.tables.proofs.State.{tie-means}
 use Rattle.tables.proofs.StateTidy.{tidy-labelled}
-use Rattle.tables.proofs.StateBase.{few-settings, base-state, base-present, base-chains}
+use Rattle.tables.proofs.StateBase.{base-state, base-present, base-chains}
 
 -- the dependences, and what τ relates in the first n slots
 abbrev pub UpToSlot : Grammar → ℕ → (ℕ → ℕ → ℕ → Type 0) → ℕ → Occ → Occ → Type 0
@@ -135,8 +135,7 @@ module _ {G : Grammar} {p : ℕ} {τ : ℕ → ℕ → ℕ → Type 0} {n : ℕ}
 
         groups : (o o′ : ℕ) → Present s o → Present s o′ → Same s o o′ ↔ Closure G p τ (occ o) (occ o′)
         groups o o′ k k′ =
-            let t = show-closure (occ o) (occ o′) in
-            (
+            let t = show-closure (occ o) (occ o′) in (
               λ e. t .0 (fwd done (omega arith, omega arith, rw (whole o, whole o′) e)),
               λ c. (k, k′, subst₂ (λ x y. getD s x none ≡ getD s y none) (whole o) (whole o′) (keeps (λ q. getD s (number q) none) (λ x y r. r .2 .2) (t .1 c))),
             )

@@ -16,7 +16,7 @@ use lib.Seq.{set-getD, ext-getD, take-all, take-suc-set, drop-cons}
 use Rattle.lists.specs.Pick.{pick}
 use Rattle.lists.specs.Part.{part, place}
 use Rattle.lists.specs.Sought.{Free, Least}
-use Rattle.lists.proofs.Sought.{free-none, free-more, free-fewer, least-once}
+use Rattle.lists.proofs.Sought.{free-more, free-fewer, least-once}
 use Rattle.lists.proofs.Parts.{length-part, getD-part}
 use Rattle.lists.proofs.Copied.{Copying, copy-turn, copy-done}
 use Rattle.lists.proofs.Carry.{placed}
@@ -134,15 +134,21 @@ module _ {b : List ℕ} {at : ℕ} {s : List ℕ} {i : ℕ} (h : Basing b at s i
   pub base-low : {x y : ℕ} → i < pairs-at b at → x ≡ to-at b at i → y ≡ from-at b at i → (x < labels) × (y < labels) × (length s ≡ labels)
   base-low l p q = (rw p (r .low i l .0), rw q (r .low i l .1), h .long)
 
+  to-byte : i < pairs-at b at → getD (bytes-at b at) (2 * i) 0 ≡ to-at b at i
+  to-byte l = getD-part (at + 3 + arity-at b at) (2 * pairs-at b at) b (2 * i) 0 (omega arith)
+
+  from-byte : i < pairs-at b at → getD (bytes-at b at) (2 * i + 1) 0 ≡ from-at b at i
+  from-byte l =
+      getD-part (at + 3 + arity-at b at) (2 * pairs-at b at) b (2 * i + 1) 0 (omega arith)
+      ∙ ap (λ (k : ℕ). getD b k 0) (sym (add-assoc (at + 3 + arity-at b at) (2 * i) 1))
+
   pub base-turn : (x y : ℕ) (s′ : List ℕ) → i < pairs-at b at → x ≡ to-at b at i → y ≡ from-at b at i → s′ ≡ joinAt s x y → Basing b at s′ (i + 1)
   unfolding joins
   base-turn x y s′ l p q j =
       let bs = bytes-at b at in
       let rest = numbers (ties-of (drop (2 * (i + 1)) bs)) in
-      let u : getD bs (2 * i) 0 ≡ x = getD-part (at + 3 + arity-at b at) (2 * pairs-at b at) b (2 * i) 0 (omega arith) ∙ sym p in
-      let v : getD bs (2 * i + 1) 0 ≡ y =
-          getD-part (at + 3 + arity-at b at) (2 * pairs-at b at) b (2 * i + 1) 0 (omega arith)
-          ∙ ap (λ (k : ℕ). getD b k 0) (sym (add-assoc (at + 3 + arity-at b at) (2 * i) 1)) ∙ sym q in
+      let u : getD bs (2 * i) 0 ≡ x = to-byte l ∙ sym p in
+      let v : getD bs (2 * i + 1) 0 ≡ y = from-byte l ∙ sym q in
       record {
         few = omega arith;
         long = ap length j ∙ length-joinAt s x y ∙ h .long;

@@ -15,10 +15,10 @@ ghost use Rattle.book.specs.Search.{Tells};
 ghost use Rattle.ranks.specs.Entries.{labels, none};
 ghost use Rattle.tables.specs.State.{Low, State, Whole, Readable, width-in, own, apart, based, Numbered, Renumbered, tidied};
 
-// Settings to a slot, and slots to a production: what an occurrence number counts.
-pub const SETTINGS: usize = 8;
+// Occurrence numbers to a slot, and to a production: slot 0 and a slot for each child.
+pub const SETTINGS: usize = book::limits::MAX_SETTINGS as usize;
 
-pub const LABELS: usize = 40;
+pub const LABELS: usize = (1 + book::limits::MAX_CHILDREN as usize) * SETTINGS;
 
 // No label.
 pub const NONE: u8 = 255;
@@ -31,6 +31,7 @@ fn wide(x: u8) -> usize
 
 // ---- joining
 
+// x, or a where it is b.
 fn swapped(x: u8, a: u8, b: u8) -> u8
     ensures { λ r. ⌜ r ≡ swap a b x ⌝ }
 {
@@ -105,7 +106,11 @@ pub fn base(book: &[u8], at: usize, s: &mut [u8; LABELS])
     let n = book::pairs(book, at);
     let mut i: u8 = 0;
     while i < n {
-        merge(s, wide(book::to(book, at, i)), wide(book::from(book, at, i)));
+        merge(
+            s,
+            wide(book::to(book, at, i)),
+            wide(book::from(book, at, i)),
+        );
         i += 1;
     }
 }
@@ -152,6 +157,7 @@ pub fn tie(s: &mut [u8; LABELS], slot: u8, a: u8, code: u32)
 
 // ---- a slot dropped
 
+// None of the slot's occurrences is there any more.
 pub fn forget(s: &mut [u8; LABELS], slot: u8)
     requires { ⌜ (length (now s) ≡ labels) × (slot ≤ max-kids) ⌝ }
     ensures { λ _. ⌜ now (s .exit) ≡ dropped slot (now (s .entry)) ⌝ }
@@ -191,6 +197,7 @@ fn renumber(numbers: &mut [u8; LABELS], x: u8, next: u8) -> u8
     number(numbers, x, next)
 }
 
+// The next number, after k was given.
 fn following(next: u8, k: u8) -> u8
     requires { ⌜ next < none ⌝ }
     ensures { λ r. ⌜ r ≡ pick (eqb k next) (next + 1) next ⌝ }

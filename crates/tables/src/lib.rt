@@ -1,6 +1,7 @@
-mod sets;
-mod labels;
+// The build: plausible and feasible sets, and the up and down tables over them. Also the blocks of a down entry as sets.
 mod blocks;
+mod labels;
+mod sets;
 
 pub use blocks::block_size;
 pub use blocks::first_occurrence;

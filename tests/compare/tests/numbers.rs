@@ -35,8 +35,7 @@ fn vehicles(seed: u64, count: u64) -> Vec<Vehicle> {
 
 fn numbered(vehicle: &Vehicle, tables: &Tables) -> (Vec<u64>, Vec<u16>, usize) {
     let (mut places, mut groups) = (vec![0; 3 * vehicle.nodes.len()], vec![0; 8 * vehicle.nodes.len()]);
-    let (_, settings, count) =
-        number_sheet(&vehicle.book, &vehicle.sheet, tables, &mut places, &mut groups).unwrap();
+    let (_, settings, count) = number_sheet(&vehicle.book, &vehicle.sheet, tables, &mut places, &mut groups).unwrap();
     groups.truncate(settings);
     (places, groups, count)
 }

@@ -3,6 +3,8 @@
 use generate::chance::Chance;
 use generate::lawful;
 use oracle::book::{check_book, Grammar};
+use oracle::build::counts;
+use oracle::entries::down_start;
 use oracle::{figure, passes};
 
 /// Small random grammars whose sets stay within 64 members.
@@ -24,8 +26,8 @@ fn fig_3_over_any_lawful_book() {
     for index in 0..400 {
         let grammar = check_book(&lawful::book(&mut Chance::new(12, index)).bytes()).unwrap();
         let Ok(sets) = passes::sets(&grammar) else { continue };
-        let most = sets.plausible.iter().chain(&sets.feasible).map(Vec::len).max().unwrap();
-        if most <= 6 {
+        let counts = (counts(&sets.plausible), counts(&sets.feasible));
+        if down_start(&grammar, grammar.productions.len(), &counts.0, &counts.1) <= 5000 {
             assert_eq!(sets, figure::sets(&grammar), "index {index}");
             compared += 1;
         }

@@ -33,8 +33,9 @@ pub fn built(book: &[u8]) -> Option<Tables> {
 pub fn strange(chance: &mut Chance, grammar: &Grammar) -> Option<Tables> {
     let n = grammar.kinds.len();
     let most = *chance.pick(&[1, 2, 3, 64]);
-    let mut counts = || (0..n).map(|_| chance.between(1, most) as u8).collect::<Vec<_>>();
-    let (plausible, feasible) = (counts(), counts());
+    let mut count = || if chance.once_in(12) { 64 } else { chance.between(1, most) as u8 };
+    let plausible: Vec<u8> = (0..n).map(|_| count()).collect();
+    let feasible: Vec<u8> = (0..n).map(|_| count()).collect();
     let all = grammar.productions.len();
     let (up, down) = (up_start(grammar, all, &plausible), down_start(grammar, all, &plausible, &feasible));
     if up > UP_ROOM as u64 || down > (DOWN_ROOM / DOWN) as u64 {

@@ -1,6 +1,6 @@
 //! The grammar book: refusals 1 to 8, and the grammar read off an accepted book.
 
-use crate::faults::wrong;
+use crate::faults::{limit, wrong};
 use crate::refusal::{refuse, Refusal};
 
 #[derive(Clone, Debug)]
@@ -79,11 +79,9 @@ fn bad_kind(kind: &[u8], is_start: bool) -> bool {
 }
 
 fn bad_kinds(entry: &Entry, kinds: usize, start: usize) -> bool {
-    let child_is_bad = |&child: &u8| {
-        child as usize >= kinds || (child as usize == start && !wrong("start-as-child"))
-    };
-    let most = if wrong("five-children") { 5 } else { 4 };
-    entry.left as usize >= kinds || entry.children.len() > most || entry.children.iter().any(child_is_bad)
+    let child_is_bad = |&child: &u8| child as usize >= kinds || (child as usize == start && !wrong("start-as-child"));
+    let many = entry.children.len() > limit("children", 4);
+    entry.left as usize >= kinds || many || entry.children.iter().any(child_is_bad)
 }
 
 /// The kind entry (settings, mask) that an occurrence belongs to, if the occurrence exists.
@@ -103,9 +101,7 @@ fn may_be_set(entry: &Entry, kinds: &[u8], to: u8) -> bool {
 
 fn bad_pairs(entry: &Entry, kinds: &[u8]) -> bool {
     let pairs: Vec<(u8, u8)> = entry.pairs.chunks(2).map(|pair| (pair[0], pair[1])).collect();
-    let lawful = |&(to, from): &(u8, u8)| {
-        may_be_set(entry, kinds, to) && kind_of(entry, kinds, from).is_some()
-    };
+    let lawful = |&(to, from): &(u8, u8)| may_be_set(entry, kinds, to) && kind_of(entry, kinds, from).is_some();
     let rises = |two: &[(u8, u8)]| two[0] < two[1] || (wrong("equal-pairs") && two[0] == two[1]);
     !pairs.iter().all(lawful) || !pairs.windows(2).all(rises)
 }
@@ -146,7 +142,7 @@ pub fn check_book(book: &[u8]) -> Result<Grammar, Refusal> {
     if (if wrong("edition-byte") { edition & 255 } else { edition }) != 1 {
         return refuse(2, 0);
     }
-    if !(1..=32).contains(&n) || !(1..=64).contains(&p) || start >= n {
+    if n == 0 || n > limit("kinds", 32) || p == 0 || p > limit("productions", 64) || start >= n {
         return refuse(3, 0);
     }
     if back_to_kinds != trailer || back_to_productions + 2 * n != trailer {

@@ -5,13 +5,11 @@
 pub const NAMES: &[&str] = &[
     "edition-byte",
     "start-as-child",
-    "five-children",
     "equal-pairs",
     "pairs-before-kinds",
     "early-end-place",
     "leftover",
     "leftover-22",
-    "level-65",
     "level-first",
     "own-direction",
     "only-neighbours",
@@ -20,7 +18,6 @@ pub const NAMES: &[&str] = &[
     "unused-places-stay",
     "two-places",
     "early-writes",
-    "count-65",
     "upward-from-first",
     "feasible-from-0",
     "bad-rank-at-child",
@@ -29,7 +26,6 @@ pub const NAMES: &[&str] = &[
     "ranks-as-labels",
     "label-255",
     "sheet-over-4096-is-30",
-    "sixty-five-members",
     "stop-at-empty",
     "weights-exchanged",
     "tail-touched",
@@ -42,8 +38,31 @@ pub const NAMES: &[&str] = &[
     "room-for-4096-nodes",
     "nine-after-sheet",
     "room-after-tables",
+    "kinds-less",
+    "kinds-more",
+    "productions-less",
+    "productions-more",
+    "children-less",
+    "children-more",
+    "members-less",
+    "members-more",
+    "levels-less",
+    "levels-more",
+    "sheet-less",
+    "sheet-more",
+    "count-less",
+    "count-more",
+    "input-less",
+    "input-more",
+    "up-room-less",
+    "up-room-more",
+    "down-room-less",
+    "down-room-more",
+    "node-room-less",
+    "node-room-more",
 ];
 
+/// Whether the fault of this name is to be made.
 #[cfg(feature = "faults")]
 pub fn wrong(name: &str) -> bool {
     use std::sync::OnceLock;
@@ -52,8 +71,22 @@ pub fn wrong(name: &str) -> bool {
     CHOSEN.get_or_init(|| std::env::var("ORACLE_FAULT").unwrap_or_default()) == name
 }
 
+/// A limit, one less or one more under the faults of that name.
+#[cfg(feature = "faults")]
+pub fn limit(name: &str, most: usize) -> usize {
+    let less = wrong(&format!("{name}-less")) as usize;
+    let more = wrong(&format!("{name}-more")) as usize;
+    most + more - less
+}
+
 #[cfg(not(feature = "faults"))]
 #[inline(always)]
 pub fn wrong(_name: &str) -> bool {
     false
+}
+
+#[cfg(not(feature = "faults"))]
+#[inline(always)]
+pub fn limit(_name: &str, most: usize) -> usize {
+    most
 }

@@ -3,7 +3,7 @@
 use crate::book::check_book;
 use crate::build::{build, Lent};
 use crate::entries::DOWN;
-use crate::faults::wrong;
+use crate::faults::{limit, wrong};
 use crate::refusal::{refuse, Refusal};
 use crate::sheet::{read_sheet, settings_at};
 use crate::walk::{number_sheet, Tables};
@@ -17,7 +17,7 @@ const KINDS: usize = 32;
 
 /// Sheet and book, or refusal 30.
 fn cut(input: &[u8]) -> Result<(&[u8], &[u8]), Refusal> {
-    if input.len() > MOST_INPUT || input.len() < 2 {
+    if input.len() > limit("input", MOST_INPUT) || input.len() < 2 {
         return refuse(30, 0);
     }
     let length = u16::from_le_bytes([input[0], input[1]]) as usize;
@@ -34,14 +34,15 @@ fn run(input: &[u8]) -> Result<String, Refusal> {
         plausible_counts: vec![0; KINDS],
         feasible: vec![0; 64 * KINDS],
         feasible_counts: vec![0; KINDS],
-        up: vec![0; UP_ENTRIES],
-        down: vec![0; DOWN_ENTRIES * DOWN],
+        up: vec![0; limit("up-room", UP_ENTRIES)],
+        down: vec![0; limit("down-room", DOWN_ENTRIES) * DOWN],
     };
     build(book, &mut lent)?;
     let Lent { plausible_counts, feasible_counts, up, down, .. } = lent;
     let tables = Tables { plausible_counts, feasible_counts, up, down };
-    let mut nodes = vec![0; 3 * NODES];
-    let mut groups = vec![0; if wrong("room-for-4096-nodes") { 4096 } else { 8 * NODES }];
+    let room = limit("node-room", NODES);
+    let mut nodes = vec![0; 3 * room];
+    let mut groups = vec![0; if wrong("room-for-4096-nodes") { 4096 } else { 8 * room }];
     let counts = number_sheet(book, sheet, &tables, &mut nodes, &mut groups)?;
     Ok(print(book, sheet, counts, &nodes, &groups))
 }

@@ -3,20 +3,11 @@
 //! millions of choices then stays small, also in books made to be slow.
 
 use crate::book::{Grammar, Production};
-use crate::faults::wrong;
+use crate::faults::{limit, wrong};
 use crate::refusal::{refuse, Refusal};
 use crate::ties::{Code, Ties};
 use std::collections::HashSet;
 use std::hash::{BuildHasherDefault, Hasher};
-
-/// The most members a set may have.
-fn most() -> usize {
-    if wrong("sixty-five-members") {
-        65
-    } else {
-        64
-    }
-}
 
 /// Plausible and feasible groupings of every kind, in rising code order.
 #[derive(Debug, PartialEq, Eq)]
@@ -120,7 +111,7 @@ fn upward(grammar: &Grammar) -> Result<Vec<Vec<Code>>, Refusal> {
             for code in fresh(grammar, production, &sets, met) {
                 added |= add(&mut sets[production.left], code);
             }
-            if sets[production.left].len() > most() {
+            if sets[production.left].len() > limit("members", 64) {
                 return refuse(10, 0);
             }
         }
@@ -185,7 +176,7 @@ fn downward(grammar: &Grammar, plausible: &[Vec<Code>]) -> Result<Vec<Vec<Code>>
             for code in results {
                 added |= add(&mut sets[view.child], code);
             }
-            if sets[view.child].len() > most() {
+            if sets[view.child].len() > limit("members", 64) {
                 return refuse(11, 0);
             }
         }

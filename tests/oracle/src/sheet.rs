@@ -1,7 +1,7 @@
 //! The tree sheet: refusals 20 to 23, and the tree that an accepted sheet lists.
 
 use crate::book::Grammar;
-use crate::faults::wrong;
+use crate::faults::{limit, wrong};
 use crate::refusal::{refuse, Refusal};
 
 #[derive(Clone, Debug)]
@@ -21,7 +21,7 @@ struct Due {
 
 /// Reads the sheet from left to right with a pile of what is due.
 pub fn read_sheet(grammar: &Grammar, sheet: &[u8]) -> Result<Vec<Node>, Refusal> {
-    if sheet.is_empty() || sheet.len() > 4096 {
+    if sheet.is_empty() || sheet.len() > limit("sheet", 4096) {
         return refuse(20, 0);
     }
     let mut nodes: Vec<Node> = Vec::new();
@@ -48,16 +48,14 @@ pub fn read_sheet(grammar: &Grammar, sheet: &[u8]) -> Result<Vec<Node>, Refusal>
     match sheet.get(nodes.len()) {
         None => Ok(nodes),
         Some(_) if wrong("leftover") => Ok(nodes),
-        Some(&byte) if byte as usize >= grammar.productions.len() && !wrong("leftover-22") => {
-            refuse(21, nodes.len())
-        }
+        Some(&byte) if byte as usize >= grammar.productions.len() && !wrong("leftover-22") => refuse(21, nodes.len()),
         Some(_) => refuse(22, nodes.len()),
     }
 }
 
 /// Refusals 21, 22 and 23 at one position, in that order.
 fn fits(grammar: &Grammar, byte: u8, want: &Due, position: usize) -> Result<(), Refusal> {
-    let deepest = if wrong("level-65") { 65 } else { 64 };
+    let deepest = limit("levels", 64);
     if wrong("level-first") && want.level > deepest {
         return refuse(23, position);
     }

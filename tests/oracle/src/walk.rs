@@ -2,7 +2,7 @@
 
 use crate::book::{check_book, Grammar};
 use crate::entries::{choice, choices, down_start, up_start, DOWN};
-use crate::faults::wrong;
+use crate::faults::{limit, wrong};
 use crate::refusal::{refuse, Refusal};
 use crate::sheet::{read_sheet, settings, settings_at, Node};
 
@@ -51,12 +51,7 @@ pub fn number_sheet(
     if wrong("early-writes") {
         lent_groups[..settings].fill(0);
     }
-    let most = if wrong("count-65") { 65 } else { 64 };
-    let read = if wrong("counts-past-n") { usize::MAX } else { n };
-    let mut counts = tables.plausible_counts.iter().take(read).chain(tables.feasible_counts.iter().take(read));
-    if counts.any(|&count| count > most) {
-        return refuse(25, 0);
-    }
+    check_counts(tables, n)?;
     let plausible = choose_upward(&grammar, &nodes, tables)?;
     let chosen = choose_downward(&grammar, &nodes, tables, &plausible)?;
     let (numbers, groups) = number_groups(&grammar, &nodes, tables, &chosen);
@@ -68,6 +63,17 @@ pub fn number_sheet(
         *place = number as u16;
     }
     Ok((nodes.len(), settings, groups))
+}
+
+/// Refusal 25 for a count over 64, of every kind, whether or not the sheet uses it.
+fn check_counts(tables: &Tables, n: usize) -> Result<(), Refusal> {
+    let most = limit("count", 64);
+    let read = if wrong("counts-past-n") { usize::MAX } else { n };
+    let mut counts = tables.plausible_counts.iter().take(read).chain(tables.feasible_counts.iter().take(read));
+    if counts.any(|&count| count as usize > most) {
+        return refuse(25, 0);
+    }
+    Ok(())
 }
 
 /// The plausible ranks of a node's children.
@@ -82,8 +88,8 @@ fn choose_upward(grammar: &Grammar, nodes: &[Node], tables: &Tables) -> Result<V
     let mut fault = None;
     for (position, node) in nodes.iter().enumerate().rev() {
         let production = &grammar.productions[node.production];
-        let entry = up_start(grammar, node.production, counts)
-            + choice(production, counts, &child_ranks(node, &plausible));
+        let entry =
+            up_start(grammar, node.production, counts) + choice(production, counts, &child_ranks(node, &plausible));
         let read = tables.up.get(entry as usize).filter(|&&rank| rank < counts[production.left]);
         match read {
             Some(&rank) => plausible[position] = rank,
@@ -134,12 +140,7 @@ fn down_number(grammar: &Grammar, node: &Node, tables: &Tables, ranks: &[u8], fe
 }
 
 /// Group numbers by node and setting, and how many there are.
-fn number_groups(
-    grammar: &Grammar,
-    nodes: &[Node],
-    tables: &Tables,
-    chosen: &[Chosen],
-) -> (Vec<Vec<usize>>, usize) {
+fn number_groups(grammar: &Grammar, nodes: &[Node], tables: &Tables, chosen: &[Chosen]) -> (Vec<Vec<usize>>, usize) {
     let mut numbers: Vec<Vec<usize>> = vec![Vec::new(); nodes.len()];
     let mut next = 0;
     let mut before = Vec::new();
@@ -170,6 +171,6 @@ fn number_groups(
 
 fn same_label(earlier: &[(u8, usize)], label: u8) -> Option<usize> {
     let mut same = earlier.iter().filter(|(other, _)| *other == label);
-    let found = if wrong("last-earlier") { same.last() } else { same.next() };
+    let found = if wrong("last-earlier") { same.next_back() } else { same.next() };
     found.map(|&(_, number)| number)
 }

@@ -8,7 +8,7 @@ arity-requires : tie.Need-arity-requires
 arity-requires c κs = search needs
 
 returns : tie.Need-returns
-returns c = 
+returns c =
     let a = c .before .before .before .args in
     no-slot (a .book .now) (a .at) (c .before .arity .ensures) (c .if1 .taken)
 
@@ -19,7 +19,7 @@ settings-requires : tie.Need-settings-requires
 settings-requires c κs = search needs
 
 returns-2 : tie.Need-returns-2
-returns-2 c = 
+returns-2 c =
     let a = c .before .before .before .before .before .args in
     some-slot (a .book .now) (a .at) (c .before .before .before .arity .ensures) (c .before .before .if1 .left) (c .before .kind-in .ensures) (c .settings .ensures)
 
