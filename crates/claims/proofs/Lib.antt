@@ -6,3 +6,8 @@ pub mod Never25
 pub mod Demand3
 pub mod Tests
 pub mod BookTest
+pub mod Worked
+pub mod Closed
+pub mod Figure
+pub mod FigureSets
+pub mod Examples

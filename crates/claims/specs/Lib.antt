@@ -2,3 +2,4 @@ pub mod Build
 pub mod Sets
 pub mod Groups
 pub mod Replaced
+pub mod Examples
