@@ -5,7 +5,7 @@ use mathlib.Core.Bool.{Bool, true, false}
 use mathlib.Core.List.{List, [], _∷_, _++_, append-nil}
 use Prim.Native.Nat.{ℕ, zero, suc, _+_, _*_, _≤_, _<_}
 use native.Mathlib.Omega.{arith}
-use lib.ListN.{length, getD, replicate}
+use lib.ListN.{length, getD, replicate, length-replicate}
 use Rattle.lists.specs.Rising.{Rising, single, step}
 use Rattle.lists.specs.Refusals.{Said, accepted, refused}
 use Rattle.chains.specs.Limits.{max-levels}
@@ -23,7 +23,7 @@ use Rattle.tables.proofs.Promise.{build-once}
 use Rattle.numbering.specs.Walk.{ranks, places, numbered, unused, slot-labels, kid-labels, walk, root-entry, root-labels, started, group-numbers}
 use Rattle.numbering.specs.Promise.{Lent, TreeOf, Applies, of-sheet, short-counts, short-room, big-count, bad-up, bad-root, bad-down, Grouped, CallDue}
 use Rattle.claims.specs.Build.{tables-of}
-use Rattle.claims.specs.Examples.{book, room, Row, table, Claim, AllHold}
+use Rattle.claims.specs.Examples.{book, room, Row, grouped, table, Claim, AllHold}
 use Rattle.claims.proofs.Never25.{never-25}
 use Rattle.claims.proofs.Figure.{book-free, left}
 use Rattle.claims.proofs.FigureSets.{plausible-exactly, feasible-exactly, two-rise, three-rise, two-of-Y-rise, figure-built}
@@ -87,78 +87,73 @@ wrong-kind = refuse (3 ∷ []) (omega arith) (omega arith) (record {
 })
 
 -- ── sheets that are grouped ──
--- the tree of a production, one below it and one below that
-abbrev tower : ℕ → ℕ → ℕ → Bush
-tower p q r = grow p (grow q (grow r nil nil) nil) nil
-
--- what is lent to a call: three places for each of three nodes, one for each of ten settings
-abbrev lent : Lent
-lent = record { nodes = replicate 9 0; groups = replicate 10 0 }
-
-module _ (p q r : ℕ) (drawn : Drawn G (p ∷ q ∷ r ∷ []) (tower p q r)) (settings : settings-of G (p ∷ q ∷ r ∷ []) ≡ 10) (nodes groups : List ℕ) (count : ℕ)
-    (told : places G (tables-of left) (tower p q r) (started G (tables-of left) (tower p q r)) ≡ nodes) (numbers : group-numbers G (tables-of left) (tower p q r) .list ≡ groups)
-    (next : group-numbers G (tables-of left) (tower p q r) .next ≡ count) where
-  abbrev l : List ℕ
-  l = p ∷ q ∷ r ∷ []
-
-  free-sheet : (n p : ℕ) → sheet.Applies book l n p → ⊥
-  free-sheet n p a =
-      sheet-tree book l (3 ∷ settings-of G l ∷ []) .1
-      (record { sound = λ f a. book-free (f .0) (f .1) a; some = omega arith; few = omega arith; tree = tower (getD l 0 0) (getD l 1 0) (getD l 2 0); drawn = drawn }, refl) .1 (n, p) a
-
-  before-25 : (n p t : ℕ) → n < 25 → Applies book l (tables-of left) lent n p t → ⊥
-  before-25 n p t h (of-sheet a) = free-sheet n p a
-  before-25 n p t h (short-counts (inl k)) = omega arith
-  before-25 n p t h (short-counts (inr k)) = omega arith
-  before-25 n p t h (short-room (inl k)) = omega arith
-  before-25 n p t h (short-room (inr k)) = omega (arith, settings)
-  before-25 n p t h (big-count k) = omega arith
-  before-25 n p t h (bad-up u i q ds s k) = omega arith
-  before-25 n p t h (bad-root u k) = omega arith
-  before-25 n p t h (bad-down u i q ds s k) = omega arith
-
-  pub grouped-so : CallDue book l (tables-of left) lent (accepted (3 ∷ 10 ∷ count ∷ [])) (record { nodes = nodes; groups = groups })
-  grouped-so = (never-25 figure-built before-25, record {
-    of = record { tree = tower p q r; kinded = drawn .kinded; reads = refl };
-    nodes = sym (append-nil (places G (tables-of left) (tower p q r) (started G (tables-of left) (tower p q r))) ∙ told);
-    groups = rw settings (sym (append-nil (group-numbers G (tables-of left) (tower p q r) .list) ∙ numbers));
-    counted = rw (settings, next) refl;
-  })
-
-first-sheet : CallDue book (0 ∷ 1 ∷ 3 ∷ []) (tables-of left) lent (accepted (3 ∷ 10 ∷ 2 ∷ []))
-    (record { nodes = 1 ∷ 1 ∷ 5 ∷ 2 ∷ 2 ∷ 11 ∷ 1 ∷ 2 ∷ 20 ∷ []; groups = 0 ∷ 1 ∷ 0 ∷ 0 ∷ 1 ∷ 1 ∷ 0 ∷ 0 ∷ 1 ∷ 1 ∷ [] })
-unfolding entry settings-of ranks places numbered unused slot-labels kid-labels walk root-entry root-labels choices choice up-start down-start
-first-sheet =
-    grouped-so 0 1 3 (record {
-      kinded = ((omega arith, refl), ((omega arith, refl), ((omega arith, refl), tt, tt), tt), tt);
-      shallow = (omega arith, (omega arith, (omega arith, tt, tt), tt), tt);
-      bytes = refl;
-    }) refl (1 ∷ 1 ∷ 5 ∷ 2 ∷ 2 ∷ 11 ∷ 1 ∷ 2 ∷ 20 ∷ []) (0 ∷ 1 ∷ 0 ∷ 0 ∷ 1 ∷ 1 ∷ 0 ∷ 0 ∷ 1 ∷ 1 ∷ []) 2 refl refl refl
-
-second-sheet : CallDue book (0 ∷ 2 ∷ 4 ∷ []) (tables-of left) lent (accepted (3 ∷ 10 ∷ 1 ∷ []))
-    (record { nodes = 0 ∷ 0 ∷ 0 ∷ 0 ∷ 0 ∷ 12 ∷ 0 ∷ 0 ∷ 21 ∷ []; groups = 0 ∷ 0 ∷ 0 ∷ 0 ∷ 0 ∷ 0 ∷ 0 ∷ 0 ∷ 0 ∷ 0 ∷ [] })
-unfolding entry settings-of ranks places numbered unused slot-labels kid-labels walk root-entry root-labels choices choice up-start down-start
-second-sheet =
-    grouped-so 0 2 4 (record {
-      kinded = ((omega arith, refl), ((omega arith, refl), ((omega arith, refl), tt, tt), tt), tt);
-      shallow = (omega arith, (omega arith, (omega arith, tt, tt), tt), tt);
-      bytes = refl;
-    }) refl (0 ∷ 0 ∷ 0 ∷ 0 ∷ 0 ∷ 12 ∷ 0 ∷ 0 ∷ 21 ∷ []) (0 ∷ 0 ∷ 0 ∷ 0 ∷ 0 ∷ 0 ∷ 0 ∷ 0 ∷ 0 ∷ 0 ∷ []) 1 refl refl refl
-
 -- every accepted build in that room leaves what was worked out
 left-only : (m : tables.Lent) (made : List ℕ) → tables.BuildDue book room (accepted made) m → left ≡ m
 left-only m made due = build-once book room (accepted (9 ∷ 24 ∷ [])) (accepted made) left m figure-built due .1
 
+-- the tree of a production, one below it and one below that
+abbrev tower : ℕ → ℕ → ℕ → Bush
+tower p q r = grow p (grow q (grow r nil nil) nil) nil
+
+-- a sheet of such a tree, with ten settings; what the walk by the tables tells of it
+module _ (p q r : ℕ) (drawn : Drawn G (p ∷ q ∷ r ∷ []) (tower p q r)) (settings : settings-of G (p ∷ q ∷ r ∷ []) ≡ 10) (nodes groups : List ℕ) (count : ℕ)
+    (told : places G (tables-of left) (tower p q r) (started G (tables-of left) (tower p q r)) ≡ nodes) (nine : length nodes ≡ 9)
+    (numbers : group-numbers G (tables-of left) (tower p q r) .list ≡ groups) (ten : length groups ≡ 10) (next : group-numbers G (tables-of left) (tower p q r) .next ≡ count) where
+  abbrev l : List ℕ
+  l = p ∷ q ∷ r ∷ []
+
+  abbrev lent : Lent
+  lent = record { nodes = replicate (length nodes) 0; groups = replicate (length groups) 0 }
+
+  free-sheet : (n i : ℕ) → sheet.Applies book l n i → ⊥
+  free-sheet n i a =
+      sheet-tree book l (3 ∷ settings-of G l ∷ []) .1
+      (record { sound = λ f a. book-free (f .0) (f .1) a; some = omega arith; few = omega arith; tree = tower p q r; drawn = drawn }, refl) .1 (n, i) a
+
+  before-25 : (n i t : ℕ) → n < 25 → Applies book l (tables-of left) lent n i t → ⊥
+  before-25 n i t h (of-sheet a) = free-sheet n i a
+  before-25 n i t h (short-counts (inl k)) = omega arith
+  before-25 n i t h (short-counts (inr k)) = omega arith
+  before-25 n i t h (short-room (inl k)) = omega (arith, nine, length-replicate {A = ℕ} (length nodes) 0)
+  before-25 n i t h (short-room (inr k)) = omega (arith, settings, ten, length-replicate {A = ℕ} (length groups) 0)
+  before-25 n i t h (big-count k) = omega arith
+  before-25 n i t h (bad-up u j q ds s k) = omega arith
+  before-25 n i t h (bad-root u k) = omega arith
+  before-25 n i t h (bad-down u j q ds s k) = omega arith
+
+  grouped-so : Claim (grouped l (3 ∷ 10 ∷ count ∷ []) nodes groups)
+  grouped-so m made due =
+      subst (λ t. CallDue book l (tables-of t) lent (accepted (3 ∷ 10 ∷ count ∷ [])) (record { nodes = nodes; groups = groups })) (left-only m made due)
+      (never-25 figure-built before-25, record {
+        of = record { tree = tower p q r; kinded = drawn .kinded; reads = refl };
+        nodes = rw nine (sym (append-nil (places G (tables-of left) (tower p q r) (started G (tables-of left) (tower p q r))) ∙ told));
+        groups = rw (settings, ten) (sym (append-nil (group-numbers G (tables-of left) (tower p q r) .list) ∙ numbers));
+        counted = rw (settings, next) refl;
+      })
+
 -- THEOREM: every row of the table holds
 pub examples-hold : AllHold table
-examples-hold =
-    ( (two-rise, plausible-exactly 0)
-    , ( (three-rise, plausible-exactly 1)
-    , ( (two-of-Y-rise, plausible-exactly 2)
-    , ( (two-rise, feasible-exactly 0)
-    , ( (three-rise, feasible-exactly 1)
-    , ( (three-rise, feasible-exactly 2)
-    , ( (left, figure-built)
-    , ( (λ m made due. subst (λ t. CallDue book (0 ∷ 1 ∷ 3 ∷ []) (tables-of t) lent (accepted (3 ∷ 10 ∷ 2 ∷ [])) (record { nodes = 1 ∷ 1 ∷ 5 ∷ 2 ∷ 2 ∷ 11 ∷ 1 ∷ 2 ∷ 20 ∷ []; groups = 0 ∷ 1 ∷ 0 ∷ 0 ∷ 1 ∷ 1 ∷ 0 ∷ 0 ∷ 1 ∷ 1 ∷ [] })) (left-only m made due) first-sheet)
-    , ( (λ m made due. subst (λ t. CallDue book (0 ∷ 2 ∷ 4 ∷ []) (tables-of t) lent (accepted (3 ∷ 10 ∷ 1 ∷ [])) (record { nodes = 0 ∷ 0 ∷ 0 ∷ 0 ∷ 0 ∷ 12 ∷ 0 ∷ 0 ∷ 21 ∷ []; groups = 0 ∷ 0 ∷ 0 ∷ 0 ∷ 0 ∷ 0 ∷ 0 ∷ 0 ∷ 0 ∷ 0 ∷ [] })) (left-only m made due) second-sheet)
-    , ( ends-early, ( bytes-left, ( no-production, ( wrong-kind, tt ) ) ) ) ) ) ) ) ) ) ) ) )
+unfolding entry settings-of ranks places numbered unused slot-labels kid-labels walk root-entry root-labels choices choice up-start down-start
+examples-hold = (
+  (two-rise, plausible-exactly 0), (
+  (three-rise, plausible-exactly 1), (
+  (two-of-Y-rise, plausible-exactly 2), (
+  (two-rise, feasible-exactly 0), (
+  (three-rise, feasible-exactly 1), (
+  (three-rise, feasible-exactly 2), (
+  (left, figure-built), (
+  grouped-so 0 1 3 (record {
+    kinded = ((omega arith, refl), ((omega arith, refl), ((omega arith, refl), tt, tt), tt), tt);
+    shallow = (omega arith, (omega arith, (omega arith, tt, tt), tt), tt);
+    bytes = refl;
+  }) refl _ _ _ refl refl refl refl refl, (
+  grouped-so 0 2 4 (record {
+    kinded = ((omega arith, refl), ((omega arith, refl), ((omega arith, refl), tt, tt), tt), tt);
+    shallow = (omega arith, (omega arith, (omega arith, tt, tt), tt), tt);
+    bytes = refl;
+  }) refl _ _ _ refl refl refl refl refl, (
+  ends-early, (
+  bytes-left, (
+  no-production, (
+  wrong-kind,
+  tt)))))))))))))
