@@ -28,7 +28,7 @@ use Rattle.tables.specs.Sets.{member}
 use Rattle.tables.specs.Entries.{Ranks, picked, Upward, Downward, Ranked, DownEntry}
 use Rattle.numbering.specs.Walk.{Tables, ranks, entry-of, given, label-in, places, started}
 use Rattle.numbering.specs.Places.{plausible-rank, feasible-rank, down-entry-of}
-use Rattle.numbering.proofs.Visits.{read-rank, Visited, visited, roots-told, ranks-told}
+use Rattle.numbering.proofs.Told.{read-rank, Visited, visited, roots-told, ranks-told}
 use Rattle.numbering.proofs.Listed.{label-of}
 use Rattle.claims.proofs.Served.{Served, start-count, start-member}
 

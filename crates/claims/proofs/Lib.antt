@@ -11,3 +11,4 @@ pub mod Closed
 pub mod Figure
 pub mod FigureSets
 pub mod Examples
+pub mod CallOnce

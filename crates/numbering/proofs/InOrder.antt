@@ -17,7 +17,7 @@ use Rattle.sheet.proofs.Reading.{settings-next}
 use Rattle.numbering.specs.Walk.{Tables, Held, entry-of, given, places, numbered, unused, slot-labels, kid-labels, held, own-held, Numbered, walk, root-entry, root-labels, started, group-numbers, ranks}
 use Rattle.numbering.specs.Places.{down-entry-of, place-of, number-of}
 use Rattle.numbering.proofs.Rule.{Keeps, numbered-rule, held-map, keeps-map}
-use Rattle.numbering.proofs.Visits.{Parts, parts}
+use Rattle.numbering.proofs.Told.{Parts, parts}
 use Rattle.numbering.proofs.Listed.{root-settings, in-slot-long, kid-settings, own-settings, label-of, own-labels, all-labels}
 
 pub numbered-long : (hs : List Held) (n : ℕ) (xs : List ℕ) → length (numbered hs n xs) ≡ length xs

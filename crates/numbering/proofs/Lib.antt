@@ -1,4 +1,4 @@
 pub mod Rule
-pub mod Visits
+pub mod Told
 pub mod Listed
 pub mod InOrder
