@@ -12,3 +12,4 @@ pub mod Figure
 pub mod FigureSets
 pub mod Examples
 pub mod CallOnce
+pub mod Uniqueness

@@ -86,30 +86,38 @@ sheet-row (sheet.ends-early d ds r) = omega arith
 sheet-row (sheet.bytes-left i r h) = omega arith
 sheet-row (sheet.too-deep i k v ds r h e) = omega arith
 
--- a build of the book b left m; of the rows before 25 none applies to the sheet l, n₀ being lent to its call
-module _ {b l : List ℕ} {m₀ m : tables.Lent} {entries : List ℕ} {n₀ : Lent} (build : tables.BuildDue b m₀ (accepted entries) m)
-    (free : (n p t : ℕ) → n < 25 → Applies b l (tables-of m) n₀ n p t → ⊥) where
-  -- THEOREM: then 25 does not apply either
-  pub never-25 : (n p t : ℕ) → Applies b l (tables-of m) n₀ n p t → ⊥
-  never-25 n p t (of-sheet a) = let h = sheet-row a in free n p p (omega arith) (of-sheet a)
-  never-25 n p t (short-counts h) = free 9 0 0 (omega arith) (short-counts h)
-  never-25 n p t (short-room h) = free 24 0 0 (omega arith) (short-room h)
-  never-25 n p t (big-count h) = counts-few (built-lawful build) (built-serves build) h
-  never-25 n p t (bad-up u i q ds s h) = up-good (built-lawful build) (built-serves build) (u .tree) (u .kinded) i q ds s h
-  never-25 n p t (bad-root u h) = root-good (built-lawful build) (built-serves build) (u .tree) (u .kinded) h
-  never-25 n p t (bad-down u i q ds s h) = down-good (built-lawful build) (built-serves build) (u .tree) (u .kinded) i q ds s h
+-- a build of the book b left m; n₀ is lent to a call with the sheet l
+module _ {b l : List ℕ} {m₀ m : tables.Lent} {entries : List ℕ} {n₀ : Lent} (build : tables.BuildDue b m₀ (accepted entries) m) where
+  -- THEOREM: no row applies but those before 25
+  pub below-25 : {n p t : ℕ} → Applies b l (tables-of m) n₀ n p t → n < 25
+  below-25 (of-sheet a) = let h = sheet-row a in omega arith
+  below-25 (short-counts h) = omega arith
+  below-25 (short-room h) = omega arith
+  below-25 (big-count h) = absurd (counts-few (built-lawful build) (built-serves build) h)
+  below-25 (bad-up u i q ds s h) = absurd (up-good (built-lawful build) (built-serves build) (u .tree) (u .kinded) i q ds s h)
+  below-25 (bad-root u h) = absurd (root-good (built-lawful build) (built-serves build) (u .tree) (u .kinded) h)
+  below-25 (bad-down u i q ds s h) = absurd (down-good (built-lawful build) (built-serves build) (u .tree) (u .kinded) i q ds s h)
 
-  its-tree : TreeOf (grammar b) l
-  its-tree =
-      let counts = length l ∷ settings-of (grammar b) l ∷ [] in
-      let fits = sheet-tree b l counts .0 (refl, λ f a. let h = sheet-row a in free (f .0) (f .1) (f .1) (omega arith) (of-sheet a)) .0 in
-      record { tree = fits .tree; kinded = fits .drawn .kinded; reads = fits .drawn .bytes }
+  -- THEOREM: whatever the call is refused with is below 25
+  pub never-25 : {n : Lent} {number place : ℕ} → CallDue b l (tables-of m) n₀ (refused number place) n → number < 25
+  never-25 ((t, first), e) = below-25 (first .0)
 
-  -- THEOREM: and the call is accepted
-  pub accepted-with-own-tables : (counts : List ℕ) × (n : Lent) × CallDue b l (tables-of m) n₀ (accepted counts) n
-  accepted-with-own-tables =
-      let G = grammar b in
-      let T = tables-of m in
-      let f = its-tree .tree in
-      let n : Lent = record { nodes = places G T f (started G T f) ++ drop (3 * length l) (n₀ .nodes); groups = group-numbers G T f .list ++ drop (settings-of G l) (n₀ .groups) } in
-      (length l ∷ settings-of G l ∷ group-numbers G T f .next ∷ [], n, (never-25, record { of = its-tree; nodes = refl; groups = refl; counted = refl }))
+  -- ── of the rows before 25 none applies ──
+  module _ (free : (n p t : ℕ) → n < 25 → Applies b l (tables-of m) n₀ n p t → ⊥) where
+    pub no-row : (n p t : ℕ) → Applies b l (tables-of m) n₀ n p t → ⊥
+    no-row n p t a = free n p t (below-25 a) a
+
+    its-tree : TreeOf (grammar b) l
+    its-tree =
+        let counts = length l ∷ settings-of (grammar b) l ∷ [] in
+        let fits = sheet-tree b l counts .0 (refl, λ f a. no-row (f .0) (f .1) (f .1) (of-sheet a)) .0 in
+        record { tree = fits .tree; kinded = fits .drawn .kinded; reads = fits .drawn .bytes }
+
+    -- THEOREM: then the call is accepted
+    pub accepted-with-own-tables : (counts : List ℕ) × (n : Lent) × CallDue b l (tables-of m) n₀ (accepted counts) n
+    accepted-with-own-tables =
+        let G = grammar b in
+        let T = tables-of m in
+        let f = its-tree .tree in
+        let n : Lent = record { nodes = places G T f (started G T f) ++ drop (3 * length l) (n₀ .nodes); groups = group-numbers G T f .list ++ drop (settings-of G l) (n₀ .groups) } in
+        (length l ∷ settings-of G l ∷ group-numbers G T f .next ∷ [], n, (no-row, record { of = its-tree; nodes = refl; groups = refl; counted = refl }))

@@ -3,3 +3,4 @@ pub mod Sets
 pub mod Groups
 pub mod Replaced
 pub mod Examples
+pub mod Once
