@@ -12,6 +12,7 @@ use Rattle.chains.specs.Chain.{Chain, RootChains, NodeChains}
 use Rattle.chains.specs.Grouping.{Says}
 use Rattle.chains.specs.Choice.{ChosenUp, ChosenDown}
 use Rattle.chains.specs.Numbering.{Told, Numbered}
+use Rattle.chains.proofs.WellKinded.{sub-kinded}
 use Rattle.chains.proofs.Read.{one-forest}
 use Rattle.chains.proofs.Entries.{subtree-says, whole-says}
 use Rattle.chains.proofs.Walk.{numbers-exact, numbers-used}
@@ -24,7 +25,7 @@ use Rattle.numbering.specs.Places.{plausible-rank, feasible-rank, down-entry-of
 use Rattle.numbering.specs.Promise as numbering
 use Rattle.numbering.proofs.Listed.{label-of}
 use Rattle.numbering.proofs.InOrder.{next-at, next-last, walk-numbered}
-use Rattle.claims.specs.Build.{tables-of}
+use Rattle.claims.specs.Build.{Taken}
 use Rattle.claims.specs.Groups.{RankOf, GroupsAreChains}
 use Rattle.claims.proofs.Served.{Served, built-lawful, built-serves}
 use Rattle.claims.proofs.Chosen.{code-of, kind-at, rise, plausible-below, feasible-below, fall, entries-told}
@@ -47,8 +48,8 @@ pub one-tree-of : {G : Grammar} {l : List ℕ} (t u : numbering.TreeOf G l) → 
 one-tree-of {G} t u = one-forest G (G .start ∷ []) (t .tree) (u .tree) (t .kinded) (u .kinded) (t .reads ∙ sym (u .reads))
 
 -- ── one accepted call, by tables that serve its grammar ──
-module _ {G : Grammar} (L : Lawful G) (m : tables.Lent) (served : Served G (m .plausible) (m .feasible) (tables-of m)) {l : List ℕ} {n n′ : numbering.Lent} {counts : List ℕ}
-    (g : numbering.Grouped G l (tables-of m) n n′ counts) where
+module _ {G : Grammar} (L : Lawful G) (m : tables.Lent) {T : Tables} (served : Served G (m .plausible) (m .feasible) T) (taken : Taken G m T) {l : List ℕ} {n n′ : numbering.Lent} {counts : List ℕ}
+    (g : numbering.Grouped G l T n n′ counts) where
   abbrev tree : Bush
   tree = g .of .tree
 
@@ -56,7 +57,7 @@ module _ {G : Grammar} (L : Lawful G) (m : tables.Lent) (served : Served G (m .p
   kinded = g .of .kinded
 
   abbrev like : ℕ → Occ → Occ → Type 0
-  like i o o′ = label-of G (tables-of m) (down-entry-of (n′ .nodes) i) o ≡ label-of G (tables-of m) (down-entry-of (n′ .nodes) i) o′
+  like i o o′ = label-of G T (down-entry-of (n′ .nodes) i) o ≡ label-of G T (down-entry-of (n′ .nodes) i) o′
 
   abbrev plausible-code : ℕ → ℕ
   plausible-code = code-of G (m .plausible) (flat tree) (plausible-rank (n′ .nodes))
@@ -73,33 +74,36 @@ module _ {G : Grammar} (L : Lawful G) (m : tables.Lent) (served : Served G (m .p
   told : Told G tree like
   told = entries-told L served tree kinded (n′ .nodes) (nodes-carried g)
 
-  numbered : Numbered G tree like (number-of G l (n′ .groups)) (next-at G (tables-of m) tree)
-  numbered = walk-numbered G (tables-of m) (G .start) tree kinded l (n′ .nodes) (n′ .groups) (g .of .reads) (nodes-carried g) (groups-carried g)
+  numbered : Numbered G tree like (number-of G l (n′ .groups)) (next-at G T tree)
+  numbered = walk-numbered G T (G .start) tree kinded l (n′ .nodes) (n′ .groups) (g .of .reads) (nodes-carried g) (groups-carried g)
 
   kind-of : (i q : ℕ) (ds : Bush) → Sub tree 0 i q ds → G .left (getD (flat tree) i 0) ≡ G .left q
   kind-of = kind-at L served tree kinded (n′ .nodes) (nodes-carried g)
 
+  left-low : (i q : ℕ) (ds : Bush) → Sub tree 0 i q ds → G .left q < G .kinds
+  left-low i q ds t = L .left-in q (sub-kinded G tree (G .start ∷ []) 0 i q ds kinded t .0)
+
   its-groups : GroupsAreChains G l tree m n′ counts
   its-groups = record {
-    shared = numbers-exact G L (G .start) like (number-of G l (n′ .groups)) (next-at G (tables-of m) tree) tree kinded told numbered;
+    shared = numbers-exact G L (G .start) like (number-of G l (n′ .groups)) (next-at G T tree) tree kinded told numbered;
     own = λ i q ds t. record {
-      below = plausible-below L served tree kinded (n′ .nodes) (nodes-carried g) i q ds t;
+      below = subst (λ k. plausible-rank (n′ .nodes) i < k) (taken .plausible-counts (G .left q) (left-low i q ds t)) (plausible-below L served tree kinded (n′ .nodes) (nodes-carried g) i q ds t);
       says = subst (λ k. Says (G .settings (G .left q)) (member (m .plausible) k (plausible-rank (n′ .nodes) i)) (RootChains G q ds)) (kind-of i q ds t)
           (subtree-says G L plausible-code (G .start) tree kinded chosen-up i q ds t);
     };
     whole = λ i q ds t. record {
-      below = feasible-below L served tree kinded (n′ .nodes) (nodes-carried g) i q ds t;
+      below = subst (λ k. feasible-rank (n′ .nodes) i < k) (taken .feasible-counts (G .left q) (left-low i q ds t)) (feasible-below L served tree kinded (n′ .nodes) (nodes-carried g) i q ds t);
       says = subst (λ k. Says (G .settings (G .left q)) (member (m .feasible) k (feasible-rank (n′ .nodes) i)) (NodeChains G tree i)) (kind-of i q ds t)
           (whole-says G L plausible-code (G .start) tree kinded chosen-up feasible-code chosen-down i q ds t);
     };
-    groups = next-at G (tables-of m) tree (size tree);
-    counted = rw (next-last G (tables-of m) tree) (g .counted);
-    used = numbers-used G L (G .start) like (number-of G l (n′ .groups)) (next-at G (tables-of m) tree) tree kinded told numbered;
+    groups = next-at G T tree (size tree);
+    counted = rw (next-last G T tree) (g .counted);
+    used = numbers-used G L (G .start) like (number-of G l (n′ .groups)) (next-at G T tree) tree kinded told numbered;
   }
 
--- THEOREM: after an accepted build of a book, every accepted sheet call by the tables that it left tells the chains of the sheet's tree
-pub groups-are-chains : {b l : List ℕ} {m₀ m : tables.Lent} {entries : List ℕ} {n₀ n : numbering.Lent} {counts : List ℕ}
-    → tables.BuildDue b m₀ (accepted entries) m → numbering.CallDue b l (tables-of m) n₀ (accepted counts) n
+-- THEOREM: after an accepted build of a book, every accepted sheet call by what it left tells the chains of the sheet's tree
+pub groups-are-chains : {b l : List ℕ} {m₀ m : tables.Lent} {entries : List ℕ} {T : Tables} {n₀ n : numbering.Lent} {counts : List ℕ}
+    → tables.BuildDue b m₀ (accepted entries) m → Taken (grammar b) m T → numbering.CallDue b l T n₀ (accepted counts) n
     → (t : numbering.TreeOf (grammar b) l) → GroupsAreChains (grammar b) l (t .tree) m n counts
-groups-are-chains {b} {l} {m₀} {m} {entries} {n₀} {n} {counts} build call t =
-    subst (λ f. GroupsAreChains (grammar b) l f m n counts) (one-tree-of (call .1 .of) t) (its-groups (built-lawful build) m (built-serves build) (call .1))
+groups-are-chains {b} {l} {m₀} {m} {entries} {T} {n₀} {n} {counts} build taken call t =
+    subst (λ f. GroupsAreChains (grammar b) l f m n counts) (one-tree-of (call .1 .of) t) (its-groups (built-lawful build) m (built-serves build taken) taken (call .1))

@@ -22,12 +22,13 @@ use Rattle.tables.specs.Memory.{Fine}
 use Rattle.tables.specs.Promise as tables
 use Rattle.tables.proofs.Members.{rank-once}
 use Rattle.tables.proofs.Memory.{fine-placed}
+use Rattle.numbering.specs.Walk.{Tables}
 use Rattle.numbering.specs.Promise.{Lent, TreeOf, CallDue}
 use Rattle.numbering.specs.Places.{plausible-rank, feasible-rank, number-of}
-use Rattle.claims.specs.Build.{tables-of}
+use Rattle.claims.specs.Build.{Taken, tables-of}
 use Rattle.claims.specs.Groups.{RankOf, GroupsAreChains}
 use Rattle.claims.specs.Replaced.{Replacement, Outside, OutsideSetting, Unchanged}
-use Rattle.claims.proofs.Served.{Served, built-lawful, built-serves}
+use Rattle.claims.proofs.Served.{Served, built-lawful, taken-whole, built-serves}
 use Rattle.claims.proofs.Demand2Groups.{groups-are-chains}
 
 -- two ranks of one grouping are the same rank
@@ -91,12 +92,13 @@ module _ {G : Grammar} (L : Lawful G) {m : tables.Lent} (served : Served G (m .p
       Iff·trans (one .shared x y hx hy)
       (Iff·trans (replaced-chains G L h (G .start ∷ []) q q′ ds ds′ kinded kinded′ agree x y x′ y′ sx sy) (Iff·symm (other .shared x′ y′ (fitted x x′ sx hx) (fitted y y′ sy hy))))
 
--- THEOREM: of two accepted sheet calls by the tables of one accepted build, where the one sheet is the other with a subtree replaced by one that groups
+-- THEOREM: of two accepted sheet calls by what one accepted build left, where the one sheet is the other with a subtree replaced by one that groups
 -- its root's settings in the same way, the nodes outside have the same ranks, and settings outside share a group in the one exactly when in the other
-pub nothing-changes-outside : {b l l′ : List ℕ} {m₀ m : tables.Lent} {entries : List ℕ} {n₀ n n₀′ n′ : Lent} {counts counts′ : List ℕ}
-    → tables.BuildDue b m₀ (accepted entries) m → CallDue b l (tables-of m) n₀ (accepted counts) n → CallDue b l′ (tables-of m) n₀′ (accepted counts′) n′
+pub nothing-changes-outside : {b l l′ : List ℕ} {m₀ m : tables.Lent} {entries : List ℕ} {T T′ : Tables} {n₀ n n₀′ n′ : Lent} {counts counts′ : List ℕ}
+    → tables.BuildDue b m₀ (accepted entries) m → Taken (grammar b) m T → Taken (grammar b) m T′
+    → CallDue b l T n₀ (accepted counts) n → CallDue b l′ T′ n₀′ (accepted counts′) n′
     → (r : Replacement (grammar b) l l′) (t : TreeOf (grammar b) l) → Unchanged r t n n′
-nothing-changes-outside {b} {l} {l′} {m₀} {m} {entries} {n₀} {n} {n₀′} {n′} {counts} {counts′} build call call′ r t =
+nothing-changes-outside {b} {l} {l′} {m₀} {m} {entries} {T} {T′} {n₀} {n} {n₀′} {n′} {counts} {counts′} build taken taken′ call call′ r t =
     let G = grammar b in
     let t′ = call′ .1 .of in
     let (h, e, e′, at) = two-sheets G (G .start ∷ []) (t .tree) (t′ .tree) (r .prod) (r .prod′) (r .kids) (r .kids′) (r .pre) (r .post) (t .kinded) (t′ .kinded)
@@ -107,11 +109,11 @@ nothing-changes-outside {b} {l} {l′} {m₀} {m} {entries} {n₀} {n} {n₀′}
     filled h e e′ at =
         let G = grammar b in
         let L = built-lawful build in
-        let served = built-serves build in
+        let served = built-serves build (taken-whole build) in
         let kinded = subst (λ f. Kinded G f (G .start ∷ [])) (sym e) (t .kinded) in
         let kinded′ = subst (λ f. Kinded G f (G .start ∷ [])) (sym e′) (call′ .1 .of .kinded) in
-        let one = subst (λ f. GroupsAreChains G l f m n counts) (sym e) (groups-are-chains build call t) in
-        let other = subst (λ f. GroupsAreChains G l′ f m n′ counts′) (sym e′) (groups-are-chains build call′ (call′ .1 .of)) in
+        let one = subst (λ f. GroupsAreChains G l f m n counts) (sym e) (groups-are-chains build taken call t) in
+        let other = subst (λ f. GroupsAreChains G l′ f m n′ counts′) (sym e′) (groups-are-chains build taken′ call′ (call′ .1 .of)) in
         let long : size (plug h (r .prod) (r .kids)) ≡ length l = ap size e ∙ sym (flat-length (t .tree)) ∙ ap length (t .reads) in
         let spotted : (i i′ : ℕ) → Outside r i i′ → Moves (spot h 0) (size (r .kids)) (size (r .kids′)) i i′
         = λ i i′ o. subst (λ z. Moves z (size (r .kids)) (size (r .kids′)) i i′) (sym at) o in

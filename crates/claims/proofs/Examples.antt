@@ -24,6 +24,7 @@ use Rattle.numbering.specs.Walk.{ranks, places, numbered, unused, slot-labels, 
 use Rattle.numbering.specs.Promise.{Lent, TreeOf, Applies, of-sheet, short-counts, short-room, big-count, bad-up, bad-root, bad-down, Grouped, CallDue}
 use Rattle.claims.specs.Build.{tables-of}
 use Rattle.claims.specs.Examples.{book, room, Row, grouped, table, Claim, AllHold}
+use Rattle.claims.proofs.Served.{taken-whole}
 use Rattle.claims.proofs.Never25.{no-row}
 use Rattle.claims.proofs.Figure.{book-free, left}
 use Rattle.claims.proofs.FigureSets.{plausible-exactly, feasible-exactly, two-rise, three-rise, two-of-Y-rise, figure-built}
@@ -124,7 +125,7 @@ module _ (p q r : ℕ) (drawn : Drawn G (p ∷ q ∷ r ∷ []) (tower p q r)) (s
   grouped-so : Claim (grouped l (3 ∷ 10 ∷ count ∷ []) nodes groups)
   grouped-so m made due =
       subst (λ t. CallDue book l (tables-of t) lent (accepted (3 ∷ 10 ∷ count ∷ [])) (record { nodes = nodes; groups = groups })) (left-only m made due)
-      (no-row figure-built before-25, record {
+      (no-row figure-built (taken-whole figure-built) before-25, record {
         of = record { tree = tower p q r; kinded = drawn .kinded; reads = refl };
         nodes = rw nine (sym (append-nil (places G (tables-of left) (tower p q r) (started G (tables-of left) (tower p q r))) ∙ told));
         groups = rw (settings, ten) (sym (append-nil (group-numbers G (tables-of left) (tower p q r) .list) ∙ numbers));

@@ -1,4 +1,4 @@
--- A sheet call by the tables that a build of its own book left is never refused with 25.
+-- A sheet call by what a build of its own book left is never refused with 25.
 use mathlib.Core.Path.{_≡_, refl, sym, ap, _∙_, subst}
 use mathlib.Core.Logic.{_⊎_, inl, inr}
 use mathlib.Core.List.{List, [], _∷_, _++_}
@@ -23,7 +23,7 @@ use Rattle.tables.specs.Promise as tables
 use Rattle.numbering.specs.Walk.{Tables, ranks, places, started, group-numbers}
 use Rattle.numbering.specs.Places.{feasible-rank, down-entry-of}
 use Rattle.numbering.specs.Promise.{Lent, TreeOf, BigCount, BadUp, BadRoot, BadDown, entry-at, Applies, of-sheet, short-counts, short-room, big-count, bad-up, bad-root, bad-down, Grouped, CallDue}
-use Rattle.claims.specs.Build.{tables-of}
+use Rattle.claims.specs.Build.{Taken}
 use Rattle.claims.proofs.Served.{Served, start-count, built-lawful, built-serves}
 use Rattle.claims.proofs.Chosen.{ranks-below, in-place, here, started-below, handed, feasible-below}
 
@@ -86,25 +86,25 @@ sheet-row (sheet.ends-early d ds r) = omega arith
 sheet-row (sheet.bytes-left i r h) = omega arith
 sheet-row (sheet.too-deep i k v ds r h e) = omega arith
 
--- a build of the book b left m; n₀ is lent to a call with the sheet l
-module _ {b l : List ℕ} {m₀ m : tables.Lent} {entries : List ℕ} {n₀ : Lent} (build : tables.BuildDue b m₀ (accepted entries) m) where
+-- a build of the book b left m, and T has it; n₀ is lent to a call with the sheet l
+module _ {b l : List ℕ} {m₀ m : tables.Lent} {entries : List ℕ} {T : Tables} {n₀ : Lent} (build : tables.BuildDue b m₀ (accepted entries) m) (taken : Taken (grammar b) m T) where
   -- THEOREM: no row applies but those before 25
-  pub below-25 : {n p t : ℕ} → Applies b l (tables-of m) n₀ n p t → n < 25
+  pub below-25 : {n p t : ℕ} → Applies b l T n₀ n p t → n < 25
   below-25 (of-sheet a) = let h = sheet-row a in omega arith
   below-25 (short-counts h) = omega arith
   below-25 (short-room h) = omega arith
-  below-25 (big-count h) = absurd (counts-few (built-lawful build) (built-serves build) h)
-  below-25 (bad-up u i q ds s h) = absurd (up-good (built-lawful build) (built-serves build) (u .tree) (u .kinded) i q ds s h)
-  below-25 (bad-root u h) = absurd (root-good (built-lawful build) (built-serves build) (u .tree) (u .kinded) h)
-  below-25 (bad-down u i q ds s h) = absurd (down-good (built-lawful build) (built-serves build) (u .tree) (u .kinded) i q ds s h)
+  below-25 (big-count h) = absurd (counts-few (built-lawful build) (built-serves build taken) h)
+  below-25 (bad-up u i q ds s h) = absurd (up-good (built-lawful build) (built-serves build taken) (u .tree) (u .kinded) i q ds s h)
+  below-25 (bad-root u h) = absurd (root-good (built-lawful build) (built-serves build taken) (u .tree) (u .kinded) h)
+  below-25 (bad-down u i q ds s h) = absurd (down-good (built-lawful build) (built-serves build taken) (u .tree) (u .kinded) i q ds s h)
 
   -- THEOREM: whatever the call is refused with is below 25
-  pub never-25 : {n : Lent} {number place : ℕ} → CallDue b l (tables-of m) n₀ (refused number place) n → number < 25
+  pub never-25 : {n : Lent} {number place : ℕ} → CallDue b l T n₀ (refused number place) n → number < 25
   never-25 ((t, first), e) = below-25 (first .0)
 
   -- ── of the rows before 25 none applies ──
-  module _ (free : (n p t : ℕ) → n < 25 → Applies b l (tables-of m) n₀ n p t → ⊥) where
-    pub no-row : (n p t : ℕ) → Applies b l (tables-of m) n₀ n p t → ⊥
+  module _ (free : (n p t : ℕ) → n < 25 → Applies b l T n₀ n p t → ⊥) where
+    pub no-row : (n p t : ℕ) → Applies b l T n₀ n p t → ⊥
     no-row n p t a = free n p t (below-25 a) a
 
     its-tree : TreeOf (grammar b) l
@@ -114,10 +114,9 @@ module _ {b l : List ℕ} {m₀ m : tables.Lent} {entries : List ℕ} {n₀ : Le
         record { tree = fits .tree; kinded = fits .drawn .kinded; reads = fits .drawn .bytes }
 
     -- THEOREM: then the call is accepted
-    pub accepted-with-own-tables : (counts : List ℕ) × (n : Lent) × CallDue b l (tables-of m) n₀ (accepted counts) n
+    pub accepted-with-own-tables : (counts : List ℕ) × (n : Lent) × CallDue b l T n₀ (accepted counts) n
     accepted-with-own-tables =
         let G = grammar b in
-        let T = tables-of m in
         let f = its-tree .tree in
         let n : Lent = record { nodes = places G T f (started G T f) ++ drop (3 * length l) (n₀ .nodes); groups = group-numbers G T f .list ++ drop (settings-of G l) (n₀ .groups) } in
         (length l ∷ settings-of G l ∷ group-numbers G T f .next ∷ [], n, (no-row, record { of = its-tree; nodes = refl; groups = refl; counted = refl }))
