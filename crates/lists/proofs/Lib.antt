@@ -9,3 +9,4 @@ pub mod Filled
 pub mod Sought
 pub mod Places
 pub mod Copied
+pub mod Carries

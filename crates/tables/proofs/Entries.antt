@@ -82,17 +82,17 @@ module _ (G : Grammar) (kids-in : (p j : ℕ) → p < G .prods → j < length (G
 
 -- ── the numbers of entries ──
 -- counts that agree on the kinds ks give the same number of choices
-choices-same : (c c′ ks : List ℕ) → ((j : ℕ) → j < length ks → getD c (getD ks j 0) 0 ≡ getD c′ (getD ks j 0) 0) → choices c ks ≡ choices c′ ks
+pub choices-same : (c c′ ks : List ℕ) → ((j : ℕ) → j < length ks → getD c (getD ks j 0) 0 ≡ getD c′ (getD ks j 0) 0) → choices c ks ≡ choices c′ ks
 unfolding choices
 choices-same c c′ [] h = refl
 choices-same c c′ (k ∷ ks) h = ap₂ _*_ (h 0 (omega arith)) (choices-same c c′ ks (λ j l. h (suc j) (omega arith)))
 
 module _ (G : Grammar) (kids-in : (p j : ℕ) → p < G .prods → j < length (G .kids p) → getD (G .kids p) j 0 < G .kinds)
     (c c′ : List ℕ) (same : (k : ℕ) → k < G .kinds → getD c k 0 ≡ getD c′ k 0) where
-  kids-same : (p : ℕ) → p < G .prods → choices c (G .kids p) ≡ choices c′ (G .kids p)
+  pub kids-same : (p : ℕ) → p < G .prods → choices c (G .kids p) ≡ choices c′ (G .kids p)
   kids-same p h = choices-same c c′ (G .kids p) (λ j l. same (getD (G .kids p) j 0) (kids-in p j h l))
 
-  up-start-same : (p : ℕ) → p ≤ G .prods → up-start G c p ≡ up-start G c′ p
+  pub up-start-same : (p : ℕ) → p ≤ G .prods → up-start G c p ≡ up-start G c′ p
   unfolding up-start
   up-start-same zero h = refl
   up-start-same (suc p) h = ap₂ _+_ (up-start-same p (omega arith)) (kids-same p h)
@@ -102,7 +102,7 @@ module _ (G : Grammar) (kids-in : (p j : ℕ) → p < G .prods → j < length (G
   up-entries-same = up-start-same (G .prods) (omega arith)
 
   module _ (left-in : (p : ℕ) → p < G .prods → G .left p < G .kinds) (d d′ : List ℕ) (same-d : (k : ℕ) → k < G .kinds → getD d k 0 ≡ getD d′ k 0) where
-    down-start-same : (p : ℕ) → p ≤ G .prods → down-start G c d p ≡ down-start G c′ d′ p
+    pub down-start-same : (p : ℕ) → p ≤ G .prods → down-start G c d p ≡ down-start G c′ d′ p
     unfolding down-start
     down-start-same zero h = refl
     down-start-same (suc p) h = ap₂ _+_ (down-start-same p (omega arith)) (ap₂ _*_ (same-d (G .left p) (left-in p h)) (kids-same p h))

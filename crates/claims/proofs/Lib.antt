@@ -1,0 +1,15 @@
+pub mod Served
+pub mod Chosen
+pub mod Demand2Sets
+pub mod Demand2Groups
+pub mod Never25
+pub mod Demand3
+pub mod Tests
+pub mod BookTest
+pub mod Worked
+pub mod Closed
+pub mod Figure
+pub mod FigureSets
+pub mod Examples
+pub mod CallOnce
+pub mod Uniqueness

@@ -1,0 +1,122 @@
+-- A sheet call by what a build of its own book left is never refused with 25.
+use mathlib.Core.Path.{_≡_, refl, sym, ap, _∙_, subst}
+use mathlib.Core.Logic.{_⊎_, inl, inr}
+use mathlib.Core.List.{List, [], _∷_, _++_}
+use Prim.Native.Nat.{ℕ, suc, _+_, _*_, _≤_, _<_}
+use native.Mathlib.Omega.{arith}
+use lib.ListN.{length, getD, drop}
+use Rattle.lists.specs.Refusals.{Said, accepted, refused}
+use Rattle.lists.proofs.Carries.{Carries}
+use Rattle.chains.specs.Limits.{max-members}
+use Rattle.chains.specs.Grammar.{Grammar, Lawful}
+use Rattle.chains.specs.Tree.{Bush, size, count, flat, Kinded, Root, Sub}
+use Rattle.chains.proofs.Range.{root-exists}
+use Rattle.chains.proofs.WellKinded.{kinded-count}
+use Rattle.book.specs.Format.{grammar}
+use Rattle.book.specs.Refusals as book
+use Rattle.sheet.specs.Reading.{settings-of}
+use Rattle.sheet.specs.Refusals as sheet
+use Rattle.sheet.proofs.Trees.{sheet-tree}
+use Rattle.ranks.specs.Entries.{up-entry, down-entry, entry-bytes}
+use Rattle.ranks.proofs.Numbers.{up-entry-below, down-entry-below}
+use Rattle.tables.specs.Promise as tables
+use Rattle.numbering.specs.Walk.{Tables, ranks, places, started, group-numbers}
+use Rattle.numbering.specs.Places.{feasible-rank, down-entry-of}
+use Rattle.numbering.specs.Promise.{Lent, TreeOf, BigCount, BadUp, BadRoot, BadDown, entry-at, Applies, of-sheet, short-counts, short-room, big-count, bad-up, bad-root, bad-down, Grouped, CallDue}
+use Rattle.claims.specs.Build.{Taken}
+use Rattle.claims.proofs.Served.{Served, start-count, built-lawful, built-serves}
+use Rattle.claims.proofs.Chosen.{ranks-below, in-place, here, started-below, handed, feasible-below}
+
+module _ {G : Grammar} (L : Lawful G) {s f : List ℕ} {T : Tables} (served : Served G s f T) where
+  counts-few : BigCount G T → ⊥
+  counts-few (k, h, inl l) = omega (arith, served .plausible .few k h)
+  counts-few (k, h, inr l) = omega (arith, served .feasible .few k h)
+
+  module _ (tree : Bush) (kinded : Kinded G tree (G .start ∷ [])) where
+    abbrev told : List ℕ
+    told = places G T tree (started G T tree)
+
+    itself : Carries told 0 told
+    itself j h = let e : 0 + j ≡ j = omega arith in rw e refl
+
+    up-good : (i q : ℕ) (ds : Bush) → Sub tree 0 i q ds → BadUp G T q ds → ⊥
+    up-good i q ds t bad =
+        let (there, below) = in-place L served tree kinded told itself i q ds t in
+        let small = ranks-below L served ds (G .kids q) below in
+        let inside = up-entry-below G (T .plausible-counts) q (G .prods) (ranks G T ds) there small in
+        let low = served .up q (ranks G T ds) there small .below in
+        elim bad [ inl l ↦ omega (arith, served .up-room) | inr l ↦ omega arith ]
+
+    root-good : BadRoot G T tree → ⊥
+    root-good bad = omega (arith, started-below L served tree kinded told itself, start-count L served)
+
+    down-good : (i q : ℕ) (ds : Bush) → Sub tree 0 i q ds → BadDown G T q (entry-at G T tree i) → ⊥
+    down-good i q ds t bad =
+        let (there, below) = in-place L served tree kinded told itself i q ds t in
+        let small = ranks-below L served ds (G .kids q) below in
+        let low = feasible-below L served tree kinded told itself i q ds t in
+        let inside = down-entry-below G (T .plausible-counts) (T .feasible-counts) q (G .prods) (feasible-rank told i) (ranks G T ds) there low small in
+        let at = here L served tree kinded told itself i q ds t .entry in
+        elim bad [ inl l ↦ omega (arith, served .down-room) | inr l ↦ kid-good (l .0) (l .1) (l .2) ]
+      where
+        kid-good : (j : ℕ) → j < length (G .kids q) → getD (T .feasible-counts) (getD (G .kids q) j 0) 0 ≤ getD (T .down) (entry-at G T tree i * entry-bytes + 40 + j) 255 → ⊥
+        kid-good j h l =
+            let below = in-place L served tree kinded told itself i q ds t .1 in
+            let (m, r) = root-exists ds (suc i) j (rw (kinded-count G ds (G .kids q) below) h) in
+            let low = handed L served tree kinded told itself i q ds t (feasible-below L served tree kinded told itself i q ds t) j m r .below in
+            omega (arith, here L served tree kinded told itself i q ds t .handed j m r)
+
+-- ── which rows there are before 25 ──
+book-row : {b : List ℕ} {n p : ℕ} → book.Applies b n p → n < 9
+book-row (book.short h) = omega arith
+book-row (book.other-edition h) = omega arith
+book-row (book.out-of-range h) = omega arith
+book-row (book.not-laid h) = omega arith
+book-row (book.bad-kind k l h) = omega arith
+book-row (book.bad-kids p l h) = omega arith
+book-row (book.bad-ties p l h) = omega arith
+book-row (book.headless k l h) = omega arith
+
+sheet-row : {b l : List ℕ} {n p : ℕ} → sheet.Applies b l n p → n < 24
+sheet-row (sheet.of-book a) = let h = book-row a in omega arith
+sheet-row (sheet.bad-length h) = omega arith
+sheet-row (sheet.no-production i ds r h k) = omega arith
+sheet-row (sheet.other-kind i k v ds r h e) = omega arith
+sheet-row (sheet.ends-early d ds r) = omega arith
+sheet-row (sheet.bytes-left i r h) = omega arith
+sheet-row (sheet.too-deep i k v ds r h e) = omega arith
+
+-- a build of the book b left m, and T has it; n₀ is lent to a call with the sheet l
+module _ {b l : List ℕ} {m₀ m : tables.Lent} {entries : List ℕ} {T : Tables} {n₀ : Lent} (build : tables.BuildDue b m₀ (accepted entries) m) (taken : Taken (grammar b) m T) where
+  -- THEOREM: no row applies but those before 25
+  pub below-25 : {n p t : ℕ} → Applies b l T n₀ n p t → n < 25
+  below-25 (of-sheet a) = let h = sheet-row a in omega arith
+  below-25 (short-counts h) = omega arith
+  below-25 (short-room h) = omega arith
+  below-25 (big-count h) = absurd (counts-few (built-lawful build) (built-serves build taken) h)
+  below-25 (bad-up u i q ds s h) = absurd (up-good (built-lawful build) (built-serves build taken) (u .tree) (u .kinded) i q ds s h)
+  below-25 (bad-root u h) = absurd (root-good (built-lawful build) (built-serves build taken) (u .tree) (u .kinded) h)
+  below-25 (bad-down u i q ds s h) = absurd (down-good (built-lawful build) (built-serves build taken) (u .tree) (u .kinded) i q ds s h)
+
+  -- THEOREM: whatever the call is refused with is below 25
+  pub never-25 : {n : Lent} {number place : ℕ} → CallDue b l T n₀ (refused number place) n → number < 25
+  never-25 ((t, first), e) = below-25 (first .0)
+
+  -- ── of the rows before 25 none applies ──
+  module _ (free : (n p t : ℕ) → n < 25 → Applies b l T n₀ n p t → ⊥) where
+    pub no-row : (n p t : ℕ) → Applies b l T n₀ n p t → ⊥
+    no-row n p t a = free n p t (below-25 a) a
+
+    its-tree : TreeOf (grammar b) l
+    its-tree =
+        let counts = length l ∷ settings-of (grammar b) l ∷ [] in
+        let fits = sheet-tree b l counts .0 (refl, λ f a. no-row (f .0) (f .1) (f .1) (of-sheet a)) .0 in
+        record { tree = fits .tree; kinded = fits .drawn .kinded; reads = fits .drawn .bytes }
+
+    -- THEOREM: then the call is accepted
+    pub accepted-with-own-tables : (counts : List ℕ) × (n : Lent) × CallDue b l T n₀ (accepted counts) n
+    accepted-with-own-tables =
+        let G = grammar b in
+        let f = its-tree .tree in
+        let n : Lent = record { nodes = places G T f (started G T f) ++ drop (3 * length l) (n₀ .nodes); groups = group-numbers G T f .list ++ drop (settings-of G l) (n₀ .groups) } in
+        (length l ∷ settings-of G l ∷ group-numbers G T f .next ∷ [], n, (no-row, record { of = its-tree; nodes = refl; groups = refl; counted = refl }))

@@ -1,0 +1,4 @@
+pub mod Rule
+pub mod Told
+pub mod Listed
+pub mod InOrder
