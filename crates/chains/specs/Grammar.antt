@@ -45,8 +45,8 @@ Exists G p o = (o .0 < length (slots G p)) × (o .1 < width G p (o .0))
 abbrev pub Target : Grammar → ℕ → Occ → Type 0
 Target G p o = ((o .0 ≡ 0) × (G .inherits (G .left p) (o .1) ≡ false)) ⊎ ((0 < o .0) × (G .inherits (getD (slots G p) (o .0) 0) (o .1) ≡ true))
 
--- one of the ties names o and o′
-abbrev pub Named : List Tie → Occ → Occ → Type 0
+-- one of the ties names o and o′ (of a list of pairs of any things)
+abbrev pub Named : {X : Type 0} → List (X × X) → X → X → Type 0
 Named [] o o′ = ⊥
 Named (t ∷ ts) o o′ = ((o ≡ t .0) × (o′ ≡ t .1)) ⊎ Named ts o o′
 

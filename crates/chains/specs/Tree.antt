@@ -59,3 +59,12 @@ At n cs o x = Slot n cs (o .0) (x .0) × (o .1 ≡ x .1)
 abbrev pub Sub : Bush → ℕ → ℕ → ℕ → Bush → Type 0
 Sub nil n i q ds = ⊥
 Sub (grow p cs rest) n i q ds = ((i ≡ n) × (p ≡ q) × (cs ≡ ds)) ⊎ (Sub cs (suc n) i q ds ⊎ Sub rest (suc (n + size cs)) i q ds)
+
+-- the nodes that are the roots of the forest at n
+abbrev pub roots : Bush → ℕ → List ℕ
+roots nil n = []
+roots (grow p cs rest) n = n ∷ roots rest (suc (n + size cs))
+
+-- x is a setting that a node of the forest at n has
+abbrev pub Fitted : Grammar → Bush → ℕ → Inst → Type 0
+Fitted G f n x = (q : ℕ) × (ds : Bush) × Sub f n (x .0) q ds × (x .1 < G .settings (G .left q))

@@ -1,1 +1,11 @@
+pub mod Order
 pub mod Refusals
+pub mod Rising
+pub mod Parts
+pub mod Carry
+pub mod Room
+pub mod MapTo
+pub mod Filled
+pub mod Sought
+pub mod Places
+pub mod Copied

@@ -2,31 +2,16 @@
 use mathlib.Core.Path.{_≡_, refl, sym, ap, ap₂, _∙_}
 use mathlib.Core.Logic.{_⊎_, inl, inr}
 use mathlib.Core.List.{List, [], _∷_}
-use Prim.Native.Nat.{ℕ, zero, suc, _<_}
+use Prim.Native.Nat.{ℕ}
 use native.Mathlib.Omega.{arith}
 use lib.ListN.{length}
+use Rattle.lists.proofs.Order.{Order, less, equal, more, order}
 use Rattle.lists.specs.Refusals.{Said, accepted, refused, Sooner, First, Due}
 
 pub data Turns (l m : List ℕ) : Type 0 where
   sooner : Sooner l m → Turns l m
   same : l ≡ m → Turns l m
   later : Sooner m l → Turns l m
-
-data Order (a b : ℕ) : Type 0 where
-  less : a < b → Order a b
-  equal : a ≡ b → Order a b
-  more : b < a → Order a b
-
-raise : {a b : ℕ} → Order a b → Order (suc a) (suc b)
-raise (less h) = less (omega arith)
-raise (equal e) = equal (ap suc e)
-raise (more h) = more (omega arith)
-
-order : (a b : ℕ) → Order a b
-order zero zero = equal refl
-order zero (suc b) = less (omega arith)
-order (suc a) zero = more (omega arith)
-order (suc a) (suc b) = raise (order a b)
 
 -- of two turns of one length one is sooner, or they are the same
 pub turns : (l m : List ℕ) → length l ≡ length m → Turns l m

@@ -1,3 +1,4 @@
 pub mod Sets
 pub mod Entries
 pub mod Promise
+pub mod Memory

@@ -1,0 +1,6 @@
+pub mod Digits
+pub mod Runs
+pub mod Numbers
+pub mod Counting
+pub mod Bytes
+pub mod Finds

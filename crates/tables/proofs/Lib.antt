@@ -1,0 +1,6 @@
+pub mod Members
+pub mod Cleared
+pub mod Memory
+pub mod Holds
+pub mod Entries
+pub mod Promise

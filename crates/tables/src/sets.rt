@@ -1,0 +1,163 @@
+// The sets of groupings in lent memory: MAX_MEMBERS places for each kind, in rising order with zeros behind, and each kind's count beside it.
+ghost use mathlib.Core.Path.{_≡_};
+ghost use mathlib.Core.List.{List·Memᴰ};
+ghost use Prim.Native.Nat.{_+_, _*_, _<_, _≤_};
+ghost use lib.ListN.{length, getD};
+ghost use Rattle.lists.specs.Part.{part, place};
+ghost use Rattle.lists.specs.Rising.{Rising};
+ghost use Rattle.lists.specs.Inserted.{Inserted};
+ghost use Rattle.chains.specs.Limits.{max-members};
+ghost use Rattle.tables.specs.Sets.{members, member};
+ghost use Rattle.tables.specs.Promise.{zeros};
+ghost use Rattle.tables.specs.Memory.{Placed, Search, Seen, Put, cleared};
+
+pub const MAX_MEMBERS: usize = 64;
+
+// What an attempt to add to the sets has come to.
+pub enum Turn {
+    Still,
+    Added,
+    Full,
+}
+
+fn wide(x: u8) -> usize
+    ensures { λ r. ⌜ (r ≡ x) × (r < 256) ⌝ }
+{
+    x as usize
+}
+
+fn narrow(x: usize) -> u8
+    requires { ⌜ x < 256 ⌝ }
+    ensures { λ r. ⌜ r ≡ x ⌝ }
+{
+    x as u8
+}
+
+// The number of members of the kind k.
+pub fn count(counts: &[u8], k: usize) -> usize
+    requires { ⌜ k < length (now counts) ⌝ }
+    ensures { λ r. ⌜ (r ≡ getD (now (counts .entry)) k 0) × (r < 256) ⌝ }
+{
+    wide(counts[k])
+}
+
+// The first of the n places from base on that holds x; n, where none does.
+fn find(sets: &[u32], base: usize, n: usize, x: u32) -> usize
+    requires { ⌜ base + n ≤ length (now sets) ⌝ }
+    ensures { λ r. ⌜ Search (now (sets .entry)) base n x r ⌝ }
+{
+    let mut i = 0;
+    while i < n {
+        if sets[base + i] == x {
+            return i;
+        }
+        i += 1;
+    }
+    n
+}
+
+// Whether x is among the n members of the kind k.
+pub fn has(sets: &[u32], k: usize, n: usize, x: u32) -> bool
+    requires { ⌜ k * max-members + n ≤ length (now sets) ⌝ }
+    ensures { λ r. ⌜ Seen (part (k * max-members) n (now (sets .entry))) x r ⌝ }
+{
+    find(sets, k * MAX_MEMBERS, n, x) < n
+}
+
+// The rank of x among the n members of the kind k, of which it is one.
+pub fn rank(sets: &[u32], k: usize, n: usize, x: u32) -> usize
+    requires { ⌜ (k * max-members + n ≤ length (now sets)) × List·Memᴰ x (part (k * max-members) n (now sets)) ⌝ }
+    ensures { λ r. ⌜ (r < n) × (member (now (sets .entry)) k r ≡ x) ⌝ }
+{
+    find(sets, k * MAX_MEMBERS, n, x)
+}
+
+// Carries x up to its place, and from there on each member by one place. The answer says whether there is one more.
+fn carry_in(sets: &mut [u32], base: usize, n: usize, x: u32) -> bool
+    requires { ⌜ base + n < length (now sets) ⌝ }
+    ensures { λ r. ⌜ Inserted base n x (now (sets .entry)) (now (sets .exit)) r ⌝ }
+{
+    let mut carry = x;
+    let mut i = 0;
+    while i < n {
+        let y = sets[base + i];
+        if carry == y {
+            return false;
+        }
+        if carry < y {
+            sets[base + i] = carry;
+            carry = y;
+        }
+        i += 1;
+    }
+    sets[base + n] = carry;
+    true
+}
+
+// x put into the set of the kind k, if it is new and there is room for it.
+pub fn put(sets: &mut [u32], counts: &mut [u8], k: usize, x: u32) -> Turn
+    requires { ⌜ Placed (now sets) (now counts) k × Rising (members (now sets) (now counts) k) ⌝ }
+    ensures { λ r. ⌜ Put k x (now (sets .entry)) (now (counts .entry)) (now (sets .exit)) (now (counts .exit)) r ⌝ }
+{
+    let n = count(counts, k);
+    if has(sets, k, n, x) {
+        return Turn::Still;
+    }
+    if n == MAX_MEMBERS {
+        return Turn::Full;
+    }
+    carry_in(sets, k * MAX_MEMBERS, n, x);
+    counts[k] = narrow(n + 1);
+    Turn::Added
+}
+
+// The n members of the kind k, put into `list` from the place `from` on.
+pub fn copy_members(sets: &[u32], k: usize, n: usize, list: &mut [u32], from: usize)
+    requires { ⌜ (k * max-members + n ≤ length (now sets)) × (from + n ≤ length (now list)) ⌝ }
+    ensures { λ _. ⌜ now (list .exit) ≡ place from (part (k * max-members) n (now (sets .entry))) (now (list .entry)) ⌝ }
+{
+    let base = k * MAX_MEMBERS;
+    let mut i = 0;
+    while i < n {
+        list[from + i] = sets[base + i];
+        i += 1;
+    }
+}
+
+// The first n places become zero.
+pub fn clear32(s: &mut [u32], n: usize)
+    requires { ⌜ n ≤ length (now s) ⌝ }
+    ensures { λ _. ⌜ now (s .exit) ≡ cleared n (now (s .entry)) ⌝ }
+{
+    let mut i = 0;
+    while i < n {
+        s[i] = 0;
+        i += 1;
+    }
+}
+
+pub fn clear8(s: &mut [u8], n: usize)
+    requires { ⌜ n ≤ length (now s) ⌝ }
+    ensures { λ _. ⌜ now (s .exit) ≡ cleared n (now (s .entry)) ⌝ }
+{
+    let mut i = 0;
+    while i < n {
+        s[i] = 0;
+        i += 1;
+    }
+}
+
+// The whole slice becomes zero.
+pub fn wipe32(s: &mut [u32])
+    ensures { λ _. ⌜ now (s .exit) ≡ zeros (now (s .entry)) ⌝ }
+{
+    let n = s.len();
+    clear32(s, n);
+}
+
+pub fn wipe8(s: &mut [u8])
+    ensures { λ _. ⌜ now (s .exit) ≡ zeros (now (s .entry)) ⌝ }
+{
+    let n = s.len();
+    clear8(s, n);
+}
