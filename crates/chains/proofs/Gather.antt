@@ -1,25 +1,23 @@
 -- The walk over a production's slots: a slot's code may be tied, and the slot then dropped, before the others' codes are chosen.
-use mathlib.Core.Path.{_≡_, refl, sym, ap, _∙_, subst}
+use mathlib.Core.Path.{_≡_, refl, sym, _∙_, subst}
 use mathlib.Core.Logic.{_⊎_, inl, inr, _↔_}
-use mathlib.Core.List.{List, [], _∷_}
-use Prim.Native.Nat.{ℕ, zero, suc, _+_, _-_, _≤_, _<_}
+use Prim.Native.Nat.{ℕ, _-_, _<_}
 use native.Mathlib.Omega.{arith}
 use borrow.Author.Tests.{eq-eqb, ne-eqb}
 use lib.Dec.{eqb}
-use lib.ListN.{length, getD}
 use Rattle.lists.specs.Pick.{pick}
 use Rattle.lists.proofs.Order.{by-order}
 use Rattle.chains.specs.Grammar.{Occ, Grammar, slots, width}
-use Rattle.chains.specs.Chain.{Eqv, done, fwd, bwd}
+use Rattle.chains.specs.Chain.{Eqv, done, fwd}
 use Rattle.chains.specs.Grouping.{label, Says}
-use Rattle.chains.specs.Gather.{InSlot, TiedTo, AllTied, Result, Kept, Outside, UpTo, Towards}
+use Rattle.chains.specs.Gather.{InSlot, TiedTo, AllTied, Result, Remaining, Outside, UpTo, Towards}
 use Rattle.chains.proofs.Closure.{bind, more, glue}
 use Rattle.chains.proofs.Says.{says-map, says-unique}
 
 -- ---- dropping
 module _ {X : Type 0} (S T : X → X → Type 0) (Keep : X → Type 0) (within : (x y : X) → T x y → Keep x × Keep y) where
   -- THEOREM: what no tie of T touches may be dropped before T is tied: what is kept is chained as before
-  pub drop : (x y : X) → Keep x → Keep y → Eqv (λ x y. S x y ⊎ T x y) x y ↔ Eqv (λ x y. Kept Keep S x y ⊎ T x y) x y
+  pub drop : (x y : X) → Keep x → Keep y → Eqv (λ x y. S x y ⊎ T x y) x y ↔ Eqv (λ x y. Remaining Keep S x y ⊎ T x y) x y
   drop x y hx hy = (
     λ c. more aside (glue (λ x y. S x y ⊎ T x y) T S Keep (λ x. Unit {0}) Keep split within (λ x y s. (tt, tt)) (λ x h u. h) hx hy c),
     bind whole,
@@ -29,11 +27,11 @@ module _ {X : Type 0} (S T : X → X → Type 0) (Keep : X → Type 0) (within :
       split x y (inl s) = inr s
       split x y (inr t) = inl t
 
-      aside : (x y : X) → T x y ⊎ Kept Keep S x y → Kept Keep S x y ⊎ T x y
+      aside : (x y : X) → T x y ⊎ Remaining Keep S x y → Remaining Keep S x y ⊎ T x y
       aside x y (inl t) = inr t
       aside x y (inr k) = inl k
 
-      whole : (x y : X) → Kept Keep S x y ⊎ T x y → Eqv (λ x y. S x y ⊎ T x y) x y
+      whole : (x y : X) → Remaining Keep S x y ⊎ T x y → Eqv (λ x y. S x y ⊎ T x y) x y
       whole x y (inl k) = more (λ x y s. inl s) (k .2)
       whole x y (inr t) = fwd done (inr t)
 
@@ -101,7 +99,7 @@ module _ (G : Grammar) (p t : ℕ) where
       others-kept : (o q : Occ) → Others f o q → Keep o × Keep q
       others-kept o q (s, h, (u, v, i)) = (subst (λ s. Keep (s, o .1)) (sym u) (later s (o .1) h), subst (λ s. Keep (s, q .1)) (sym v) (later s (q .1) h))
 
-      tied-first : (a b : ℕ) → Eqv (AllTied G p Wide f ρ) (t, a) (t, b) ↔ Eqv (AllTied G p Open f (Kept Keep (TiedTo G p s₀ c ρ))) (t, a) (t, b)
+      tied-first : (a b : ℕ) → Eqv (AllTied G p Wide f ρ) (t, a) (t, b) ↔ Eqv (AllTied G p Open f (Remaining Keep (TiedTo G p s₀ c ρ))) (t, a) (t, b)
       tied-first a b =
           let d = drop (TiedTo G p s₀ c ρ) (Others f) Keep others-kept (t, a) (t, b) (target a) (target b) in
           (λ k. d .0 (more first k), λ k. more last (d .1 k))
@@ -123,24 +121,24 @@ module _ (G : Grammar) (p t : ℕ) where
     rechosen f g h κ o q (inr (s, u, i)) = inr (s, u, rw (h s u) at i)
 
     -- THEOREM: the results over one slot more are those, over the others, of ρ tied with one of that slot's codes and seen on what is kept
-    pub result-more : Result G p t Codes (λ s. (s ≡ s₀) ⊎ Open s) ρ x ↔ ((c : ℕ) × Codes s₀ c × Result G p t Codes Open (Kept Keep (TiedTo G p s₀ c ρ)) x)
+    pub result-more : Result G p t Codes (λ s. (s ≡ s₀) ⊎ Open s) ρ x ↔ ((c : ℕ) × Codes s₀ c × Result G p t Codes Open (Remaining Keep (TiedTo G p s₀ c ρ)) x)
     result-more = (apart, together)
       where
-        apart : Result G p t Codes (λ s. (s ≡ s₀) ⊎ Open s) ρ x → (c : ℕ) × Codes s₀ c × Result G p t Codes Open (Kept Keep (TiedTo G p s₀ c ρ)) x
+        apart : Result G p t Codes (λ s. (s ≡ s₀) ⊎ Open s) ρ x → (c : ℕ) × Codes s₀ c × Result G p t Codes Open (Remaining Keep (TiedTo G p s₀ c ρ)) x
         apart r = (
           r .choice s₀,
           r .from s₀ (inl refl),
           record { choice = r .choice; from = λ s h. r .from s (inr h); says = says-map (r .says) (λ a b ha hb. tied-first (r .choice) (r .choice s₀) refl a b) },
         )
 
-        together : (c : ℕ) × Codes s₀ c × Result G p t Codes Open (Kept Keep (TiedTo G p s₀ c ρ)) x → Result G p t Codes (λ s. (s ≡ s₀) ⊎ Open s) ρ x
+        together : (c : ℕ) × Codes s₀ c × Result G p t Codes Open (Remaining Keep (TiedTo G p s₀ c ρ)) x → Result G p t Codes (λ s. (s ≡ s₀) ⊎ Open s) ρ x
         together (c, m, r) = record {
           choice = but (r .choice) c;
           from = λ s h. elim h [ inl e ↦ rw (e, but-here (r .choice) c) m | inr u ↦ rw (but-there (r .choice) c s u) (r .from s u) ];
           says = says-map (r .says) (λ a b ha hb.
               let k = tied-first (but (r .choice) c) c (but-here (r .choice) c) a b in (
-                λ d. k .1 (more (rechosen (r .choice) (but (r .choice) c) (λ s u. sym (but-there (r .choice) c s u)) (Kept Keep (TiedTo G p s₀ c ρ))) d),
-                λ d. more (rechosen (but (r .choice) c) (r .choice) (λ s u. but-there (r .choice) c s u) (Kept Keep (TiedTo G p s₀ c ρ))) (k .0 d),
+                λ d. k .1 (more (rechosen (r .choice) (but (r .choice) c) (λ s u. sym (but-there (r .choice) c s u)) (Remaining Keep (TiedTo G p s₀ c ρ))) d),
+                λ d. more (rechosen (but (r .choice) c) (r .choice) (λ s u. but-there (r .choice) c s u) (Remaining Keep (TiedTo G p s₀ c ρ))) (k .0 d),
               ));
         }
 
@@ -152,7 +150,7 @@ module _ (G : Grammar) (p : ℕ) (Codes : ℕ → ℕ → Type 0) (ρ : Occ → 
 
   -- THEOREM: child j is tied and dropped, children 1 to j - 1 are left
   pub up-more : (j : ℕ) → 0 < j
-      → Result G p 0 Codes (UpTo j) ρ x ↔ ((c : ℕ) × Codes j c × Result G p 0 Codes (UpTo (j - 1)) (Kept (Outside j) (TiedTo G p j c ρ)) x)
+      → Result G p 0 Codes (UpTo j) ρ x ↔ ((c : ℕ) × Codes j c × Result G p 0 Codes (UpTo (j - 1)) (Remaining (Outside j) (TiedTo G p j c ρ)) x)
   up-more j h =
       let a = result-open G p 0 Codes (UpTo j) (λ s. (s ≡ j) ⊎ UpTo (j - 1) s) ρ x (λ s. (split s, join s)) in
       let b = result-more G p 0 Codes (UpTo (j - 1)) ρ j (λ u. omega arith) (Outside j) (λ a e. omega arith) (λ s a u e. omega arith) x in
@@ -181,17 +179,17 @@ module _ (G : Grammar) (p t : ℕ) (Codes : ℕ → ℕ → Type 0) (ρ : Occ �
       join : (s : ℕ) → (s ≡ t) ⊎ ⊥ → Towards t 0 s
       join s (inl e) = inr e
 
-      all-kept : (c a b : ℕ) → Eqv (Kept (λ o. Unit {0}) (TiedTo G p t c ρ)) (t, a) (t, b) ↔ Eqv (TiedTo G p t c ρ) (t, a) (t, b)
+      all-kept : (c a b : ℕ) → Eqv (Remaining (λ o. Unit {0}) (TiedTo G p t c ρ)) (t, a) (t, b) ↔ Eqv (TiedTo G p t c ρ) (t, a) (t, b)
       all-kept c a b = (bind (λ o q k. k .2), more (λ o q e. (tt, tt, fwd done e)))
 
-      to : (c : ℕ) × Codes t c × Result G p t Codes (λ s. ⊥) (Kept (λ o. Unit {0}) (TiedTo G p t c ρ)) x
+      to : (c : ℕ) × Codes t c × Result G p t Codes (λ s. ⊥) (Remaining (λ o. Unit {0}) (TiedTo G p t c ρ)) x
           → (c : ℕ) × Codes t c × Says (width G p t) x (λ a b. Eqv (TiedTo G p t c ρ) (t, a) (t, b))
-      to (c, m, r) = (c, m, says-map (result-none G p t Codes (λ s. ⊥) (Kept (λ o. Unit {0}) (TiedTo G p t c ρ)) x (λ s u. u) .0 r) (λ a b ha hb. all-kept c a b))
+      to (c, m, r) = (c, m, says-map (result-none G p t Codes (λ s. ⊥) (Remaining (λ o. Unit {0}) (TiedTo G p t c ρ)) x (λ s u. u) .0 r) (λ a b ha hb. all-kept c a b))
 
       from : (c : ℕ) × Codes t c × Says (width G p t) x (λ a b. Eqv (TiedTo G p t c ρ) (t, a) (t, b))
-          → (c : ℕ) × Codes t c × Result G p t Codes (λ s. ⊥) (Kept (λ o. Unit {0}) (TiedTo G p t c ρ)) x
+          → (c : ℕ) × Codes t c × Result G p t Codes (λ s. ⊥) (Remaining (λ o. Unit {0}) (TiedTo G p t c ρ)) x
       from (c, m, s) =
-          (c, m, result-none G p t Codes (λ s. ⊥) (Kept (λ o. Unit {0}) (TiedTo G p t c ρ)) x (λ s u. u) .1 (says-map s (λ a b ha hb. (all-kept c a b .1, all-kept c a b .0))))
+          (c, m, result-none G p t Codes (λ s. ⊥) (Remaining (λ o. Unit {0}) (TiedTo G p t c ρ)) x (λ s u. u) .1 (says-map s (λ a b ha hb. (all-kept c a b .1, all-kept c a b .0))))
 
   -- THEOREM: slot t is passed over
   pub towards-skip : (j : ℕ) → 0 < j → j - 1 ≡ t → Result G p t Codes (Towards t j) ρ x ↔ Result G p t Codes (Towards t (j - 1)) ρ x
@@ -207,7 +205,7 @@ module _ (G : Grammar) (p t : ℕ) (Codes : ℕ → ℕ → Type 0) (ρ : Occ �
 
   -- THEOREM: any other slot is tied and dropped
   pub towards-more : (j : ℕ) → 0 < j → (j - 1 ≡ t → ⊥)
-      → Result G p t Codes (Towards t j) ρ x ↔ ((c : ℕ) × Codes (j - 1) c × Result G p t Codes (Towards t (j - 1)) (Kept (Outside (j - 1)) (TiedTo G p (j - 1) c ρ)) x)
+      → Result G p t Codes (Towards t j) ρ x ↔ ((c : ℕ) × Codes (j - 1) c × Result G p t Codes (Towards t (j - 1)) (Remaining (Outside (j - 1)) (TiedTo G p (j - 1) c ρ)) x)
   towards-more j h n =
       let a = result-open G p t Codes (Towards t j) (λ s. (s ≡ j - 1) ⊎ Towards t (j - 1) s) ρ x (λ s. (split s, join s)) in
       let b = result-more G p t Codes (Towards t (j - 1)) ρ (j - 1) shut (Outside (j - 1)) (λ a e. n (sym e)) later x in

@@ -4,7 +4,7 @@ use mathlib.Core.Path.{_≡_, refl, sym, ap, _∙_, subst}
 use mathlib.Core.Logic.{_⊎_, inl, inr, _↔_}
 use mathlib.Core.Bool.{Bool, true, false}
 use mathlib.Core.List.{List, [], _∷_, _++_, map}
-use Prim.Native.Nat.{ℕ, zero, suc, _+_, _≤_, _<_}
+use Prim.Native.Nat.{ℕ, zero, suc, _+_, _<_}
 use native.Mathlib.Nat.{le-of-suc-le-suc, not-suc-le-zero}
 use native.Mathlib.Omega.{arith}
 use borrow.Author.Tests.{eqb-true, eq-eqb}
@@ -14,7 +14,7 @@ use Rattle.lists.specs.Pick.{pick}
 use Rattle.chains.specs.Grammar.{Named}
 use Rattle.chains.specs.Chain.{Eqv, done, fwd, bwd}
 use Rattle.chains.specs.Labels.{swap, relabel, joinAt, joins, joinAtF, joinsF, apart, labels}
-use Rattle.chains.proofs.Closure.{trans, bind}
+use Rattle.chains.proofs.Closure.{bind}
 
 -- labels that the edges keep, chains keep
 pub keeps : {X : Type 0} {R : X → X → Type 0} (f : X → ℕ) → ((x y : X) → R x y → f x ≡ f y) → {x y : X} → Eqv R x y → f x ≡ f y

@@ -14,7 +14,7 @@ pub mod Gluing
 pub mod Plausible
 pub mod Feasible
 pub mod Gather
-pub mod Choices
+pub mod Gathered
 pub mod Nodes
 pub mod Read
 pub mod Around

@@ -8,15 +8,16 @@ use native.Mathlib.Omega.{arith}
 use lib.ListN.{length, getD}
 use Rattle.chains.specs.Grammar.{Occ, Grammar, Lawful, Heads, Exists}
 use Rattle.chains.specs.Tree.{Bush, nil, grow, Kinded}
-use Rattle.chains.specs.Chain.{Eqv, done, Chain, Slotwise, Closure}
+use Rattle.chains.specs.Chain.{done, Chain, Slotwise, Closure}
 use Rattle.chains.specs.Grouping.{Says, Alike, Each, Members}
 use Rattle.chains.specs.Plausible.{Plausible}
 use Rattle.chains.specs.Steps.{StepUp}
 use Rattle.chains.proofs.Local.{join-mono}
 use Rattle.chains.proofs.Upward.{Up, chain-iff-up}
 use Rattle.chains.proofs.WellKinded.{kinded-fits}
-use Rattle.chains.proofs.Says.{Code, says-unique, says-map, says-alike, alike-says, members-map}
-use Rattle.chains.proofs.Step.{Real, closure-real, up-exists, up-alike}
+use Rattle.chains.proofs.Says.{Code, says-unique, says-map, alike-says, members-map}
+use Rattle.chains.proofs.Alike.{Kept, alike-iff, closure-real}
+use Rattle.chains.proofs.Step.{up-exists, up-alike}
 
 pub plausible-code : (G : Grammar) (k c : ℕ) → Plausible G k c → Code G k c
 plausible-code G k c (f, h, s) = (s .low, s .first)
@@ -102,11 +103,10 @@ module _ (G : Grammar) (L : Lawful G) where
 
   -- ---- trees side by side, below a production
   -- what a tree relates among its root's settings is in range
-  root-real : (p k : ℕ) (ds : Bush) → Heads G p k → InRange G ds (G .kids p) → (a b : ℕ) → Closure G p (Slotwise (λ a b. ⊥) (Up G ds)) (0, a) (0, b)
-      → (a ≡ b) ⊎ ((a < G .settings k) × (b < G .settings k))
-  root-real p k ds (hp, e) h a b u = at-root (closure-real G p (Slotwise (λ a b. ⊥) (Up G ds)) L hp below (0, a) (0, b) u)
+  root-real : (p k : ℕ) (ds : Bush) → Heads G p k → InRange G ds (G .kids p) → Kept (G .settings k) (λ a b. Closure G p (Slotwise (λ a b. ⊥) (Up G ds)) (0, a) (0, b))
+  root-real p k ds (hp, e) h a b u = at-root (closure-real G L p hp (Slotwise (λ a b. ⊥) (Up G ds)) below (0, a) (0, b) u)
     where
-      below : Real G p (Slotwise (λ a b. ⊥) (Up G ds))
+      below : (s a b : ℕ) → Slotwise (λ a b. ⊥) (Up G ds) s a b → (a ≡ b) ⊎ (Exists G p (s, a) × Exists G p (s, b))
       below zero a b r = absurd r
       below (suc j) a b r = elim (h j a b r) [ inl e ↦ inl e | inr x ↦ inr ((omega arith, x .1), (omega arith, x .2)) ]
 
@@ -124,7 +124,7 @@ module _ (G : Grammar) (L : Lawful G) where
   told-first : (p k c : ℕ) (ds rest : Bush) → Kinded G (grow p ds nil) (k ∷ []) → Says (G .settings k) c (λ a b. Chain G (grow p ds nil) 0 (0, a) (0, b))
       → First G (grow p ds rest) k c
   told-first p k c ds rest h s =
-      says-alike G k c (λ a b. Up G (grow p ds nil) 0 a b) (says-map s (λ a b ha hb. chain-iff-up G (grow p ds nil) 0 0 0 a b (kinded-fits G L (grow p ds nil) (k ∷ []) h) refl))
+      alike-iff G k c (λ a b. Up G (grow p ds nil) 0 a b) (says-map s (λ a b ha hb. chain-iff-up G (grow p ds nil) 0 0 0 a b (kinded-fits G L (grow p ds nil) (k ∷ []) h) refl))
       (λ a. done) (root-real p k ds (h .0) (up-real ds (G .kids p) (h .1)))
 
   side-by-side : (ks cs : List ℕ) → Members (Plausible G) ks cs → (f : Bush) × Kinded G f ks × Told G f ks cs
