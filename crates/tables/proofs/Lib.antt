@@ -4,3 +4,5 @@ pub mod Memory
 pub mod Holds
 pub mod Entries
 pub mod Promise
+pub mod StateLoops
+pub mod StateNumbers

@@ -2,3 +2,4 @@ pub mod Sets
 pub mod Entries
 pub mod Promise
 pub mod Memory
+pub mod State

@@ -1,1 +1,2 @@
 mod sets;
+mod labels;

@@ -1,0 +1,26 @@
+-- Reading bytes: 0 past the end, and one byte by two spellings of its place.
+use mathlib.Core.Path.{_≡_, ap, _∙_, sym}
+use mathlib.Core.List.{List}
+use Prim.Native.Nat.{ℕ, _+_, _*_, _≤_, _<_}
+use native.Mathlib.Omega.{arith}
+use lib.ListN.{length, getD, List·getD-eq-default}
+use borrow.Author.Tests.{lt-ltb, le-ltb}
+use Rattle.book.specs.Format.{trailer, field}
+use Rattle.book.specs.Reading.{told}
+
+pub past-end : (b : List ℕ) (n : ℕ) → length b ≤ n → 0 ≡ getD b n 0
+past-end b n h = sym (List·getD-eq-default b 0 h)
+
+pub same-byte : (b : List ℕ) {r m n : ℕ} → r ≡ getD b m 0 → m ≡ n → r ≡ getD b n 0
+same-byte b e h = e ∙ ap (λ i. getD b i 0) h
+
+-- a trailer's field by its two bytes, and none where there is no trailer
+pub told-field : (b : List ℕ) (i : ℕ) {at next low high : ℕ} → 12 ≤ length b → at ≡ trailer b + 2 * i → next ≡ at + 1
+    → low ≡ getD b at 0 → high ≡ getD b next 0 → low + 256 * high ≡ told b i
+told-field b i h ea en el eh =
+    let l = same-byte b {n = trailer b + 2 * i} el ea in
+    let g = same-byte b {n = trailer b + 2 * i + 1} eh (omega arith) in
+    rw (le-ltb (length b) 12 h) (omega arith)
+
+pub told-none : (b : List ℕ) (i : ℕ) → length b < 12 → 0 ≡ told b i
+told-none b i h = rw (lt-ltb (length b) 12 h)

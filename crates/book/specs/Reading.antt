@@ -1,0 +1,40 @@
+-- What the accessors answer, of any bytes whatever: 0 where what is asked for is not there.
+-- Of an accepted book these are the fields of its grammar.
+use mathlib.Core.Path.{_≡_}
+use mathlib.Core.List.{List}
+use Prim.Native.Nat.{ℕ, _+_, _*_, _<_}
+use lib.Dec.{ltb}
+use lib.ListN.{length, getD}
+use Rattle.lists.specs.Pick.{pick}
+use Rattle.chains.specs.Limits.{max-prods}
+use Rattle.book.specs.Format.{field, arity-at, next-at, entry}
+
+-- the i-th field of the trailer, where there is a trailer
+abbrev pub told : List ℕ → ℕ → ℕ
+told b i = pick (ltb (length b) 12) 0 (field b i)
+
+-- the kind entries stand at the front, two bytes each
+abbrev pub settings-of : List ℕ → ℕ → ℕ
+settings-of b k = getD b (2 * k) 0
+
+abbrev pub mask-of : List ℕ → ℕ → ℕ
+mask-of b k = getD b (2 * k + 1) 0
+
+-- of the production entry at the place at: child j, and the two ends of pair i
+abbrev pub kid-at : List ℕ → ℕ → ℕ → ℕ
+kid-at b at j = getD b (at + 2 + j) 0
+
+abbrev pub to-at : List ℕ → ℕ → ℕ → ℕ
+to-at b at i = getD b (at + 3 + arity-at b at + 2 * i) 0
+
+abbrev pub from-at : List ℕ → ℕ → ℕ → ℕ
+from-at b at i = getD b (at + 3 + arity-at b at + 2 * i + 1) 0
+
+-- the place of the entry after it; past the book there is none
+abbrev pub following : List ℕ → ℕ → ℕ
+following b at = pick (ltb at (length b)) (next-at b at) 0
+
+-- the places of the entries, in order: each production's that the trailer counts, then 0
+pub record Index (b places : List ℕ) : Type 0 where
+  pub long : length places ≡ max-prods
+  pub each : (p : ℕ) → p < max-prods → getD places p 0 ≡ pick (ltb p (told b 2)) (entry b p) 0

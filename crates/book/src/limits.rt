@@ -1,0 +1,15 @@
+// The limits that the paper sets on a book, in one place.
+
+// Bytes of the trailer.
+pub const TRAILER: usize = 12;
+
+// The edition that this reader knows.
+pub const EDITION: u16 = 1;
+
+pub const MAX_KINDS: u16 = 32;
+
+pub const MAX_PRODUCTIONS: u16 = 64;
+
+pub const MAX_SETTINGS: u8 = 8;
+
+pub const MAX_CHILDREN: u8 = 4;

@@ -1,0 +1,113 @@
+-- A state: a label for each occurrence number of a production, while its groups are worked out. Two occurrences stand in one group where their
+-- labels are equal; an occurrence that does not exist, or that was dropped, has none.
+use mathlib.Core.Path.{_≡_}
+use mathlib.Core.Logic.{_⊎_}
+use mathlib.Core.Bool.{Bool, true, false}
+use mathlib.Core.List.{List, [], _∷_, _++_}
+use Prim.Native.Nat.{ℕ, zero, suc, _+_, _-_, _*_, _/_, _%_, _<_}
+use lib.Dec.{eqb, ltb}
+use lib.ListN.{length, getD, set, replicate}
+use Rattle.lists.specs.Pick.{pick}
+use Rattle.lists.specs.Part.{part, place}
+use Rattle.chains.specs.Limits.{max-settings}
+use Rattle.chains.specs.Grouping.{label, pack}
+use Rattle.chains.specs.Labels as labelling
+use Rattle.book.specs.Format.{left-at, arity-at, pairs-at}
+use Rattle.book.specs.Reading.{settings-of, kid-at, to-at, from-at}
+use Rattle.ranks.specs.Entries.{labels, none}
+
+-- o is there
+abbrev pub Present : List ℕ → ℕ → Type 0
+Present s o = getD s o none < none
+
+-- o and o′ are there, in one group
+abbrev pub Same : List ℕ → ℕ → ℕ → Type 0
+Same s o o′ = Present s o × Present s o′ × (getD s o none ≡ getD s o′ none)
+
+-- x is a label, or none
+abbrev pub Low : ℕ → Type 0
+Low x = (x < labels) ⊎ (x ≡ none)
+
+pub record State (s : List ℕ) : Type 0 where
+  pub long : length s ≡ labels
+  pub low : (o : ℕ) → Low (getD s o none)
+
+-- the number of the occurrence of setting a in slot t
+abbrev pub spot : ℕ → ℕ → ℕ
+spot t a = t * max-settings + a
+
+-- the first a settings of slot t are there
+abbrev pub Whole : List ℕ → ℕ → ℕ → Type 0
+Whole s t a = (x : ℕ) → x < a → Present s (spot t x)
+
+-- ── a production's own occurrences and pairs, off the entry at the place at of the book b ──
+abbrev pub kind-in : List ℕ → ℕ → ℕ → ℕ
+kind-in b at t = pick (eqb t 0) (left-at b at) (kid-at b at (t - 1))
+
+-- the number of settings in slot t
+abbrev pub width-in : List ℕ → ℕ → ℕ → ℕ
+width-in b at t = pick (ltb (arity-at b at) t) 0 (settings-of b (kind-in b at t))
+
+-- an occurrence that exists has its own number, the others none
+abbrev pub own : List ℕ → ℕ → ℕ → ℕ
+own b at o = pick (ltb (o % max-settings) (width-in b at (o / max-settings))) o none
+
+-- f 0, f 1, .., n of them
+unfoldable pub upto : {X : Type 0} → (ℕ → X) → ℕ → List X
+upto f zero = []
+upto f (suc n) = upto f n ++ f n ∷ []
+
+abbrev pub pair-at : List ℕ → ℕ → ℕ → ℕ × ℕ
+pair-at b at i = (to-at b at i, from-at b at i)
+
+-- every occurrence by itself, then the ends of each pair joined
+unfoldable pub based : List ℕ → ℕ → List ℕ
+based b at = labelling.joins (labelling.labels (own b at) 0 labels) (upto (pair-at b at) (pairs-at b at))
+
+-- ── a slot joined as a code groups it ──
+-- the first setting from i on, of the next n, that has the label v in the code c; the one after them where none has it
+unfoldable pub with-label : ℕ → ℕ → ℕ → ℕ → ℕ
+with-label c v zero i = i
+with-label c v (suc n) i = pick (eqb (label c i) v) i (with-label c v n (suc i))
+
+-- the first setting that c puts into one group with a
+abbrev pub leader : ℕ → ℕ → ℕ
+leader c a = with-label c (label c a) a 0
+
+abbrev pub to-leader : ℕ → ℕ → ℕ → ℕ × ℕ
+to-leader t c x = (spot t (leader c x), spot t x)
+
+unfoldable pub tied : List ℕ → ℕ → ℕ → ℕ → List ℕ
+tied s t a c = labelling.joins s (upto (to-leader t c) a)
+
+-- ── a slot dropped ──
+unfoldable pub forgotten : List ℕ → ℕ → List ℕ
+forgotten s t = place (t * max-settings) (replicate max-settings none) s
+
+-- ── labels by first appearance, those of `seen` having appeared already; none stays ──
+unfoldable pub tidyFrom : List ℕ → List ℕ → List ℕ
+tidyFrom seen [] = []
+tidyFrom seen (x ∷ l) = pick (eqb x none) (none ∷ tidyFrom seen l) (labelling.index x seen ∷ tidyFrom (labelling.add x seen) l)
+
+abbrev pub tidied : List ℕ → List ℕ
+tidied s = tidyFrom [] s
+
+-- ── a slot's code ──
+unfoldable pub viewed : List ℕ → ℕ → ℕ → ℕ
+viewed s t a = pack (labelling.canon (part (t * max-settings) a s))
+
+-- ── the table of numbers by which both are worked out ──
+-- a table t of the numbers that labels have: what x has, or gets as the next one
+pub record Numbered (t : List ℕ) (x next : ℕ) (t′ : List ℕ) (r : ℕ) : Type 0 where
+  pub answer : r ≡ pick (eqb (getD t x 0) none) next (getD t x 0)
+  pub table : t′ ≡ set t x r
+
+-- the same, where x may be none and stays so
+pub record Renumbered (t : List ℕ) (x next : ℕ) (t′ : List ℕ) (r : ℕ) : Type 0 where
+  pub missing : x ≡ none → (r ≡ none) × (t′ ≡ t)
+  pub label : x < labels → Numbered t x next t′ r
+
+-- ── whether a test says that P holds ──
+pub record Tells (r : Bool) (P : Type 0) : Type 0 where
+  pub yes : r ≡ true → P
+  pub no : r ≡ false → P → ⊥

@@ -1,0 +1,219 @@
+// The labels of a production's occurrences while its groups are worked out: equal labels stand in one group, and NONE where there is no such
+// occurrence or where it was dropped.
+ghost use mathlib.Core.Path.{_≡_};
+ghost use Prim.Native.Nat.{_+_, _*_, _/_, _%_, _^_, _<_, _≤_};
+ghost use lib.ListN.{length, getD, set};
+ghost use lib.Dec.{eqb};
+ghost use Rattle.lists.specs.Pick.{pick};
+ghost use Rattle.lists.specs.Part.{part, place};
+ghost use Rattle.chains.specs.Limits.{max-settings, max-kids};
+ghost use Rattle.chains.specs.Grouping.{label, pack};
+ghost use Rattle.chains.specs.Labels.{swap, relabel, joinAt, canon};
+ghost use Rattle.ranks.specs.Entries.{labels, none};
+ghost use Rattle.tables.specs.State.{Low, State, Whole, Numbered, Renumbered, spot, leader, tied, forgotten, tidied, viewed, Tells};
+
+// Settings to a slot, and slots to a production: what an occurrence number counts.
+pub const SETTINGS: usize = 8;
+
+pub const LABELS: usize = 40;
+
+// No label.
+pub const NONE: u8 = 255;
+
+fn wide(x: u8) -> usize
+    ensures { λ r. ⌜ (r ≡ x) × (r < 256) ⌝ }
+{
+    x as usize
+}
+
+// ---- joining
+
+fn swapped(x: u8, a: u8, b: u8) -> u8
+    ensures { λ r. ⌜ r ≡ swap a b x ⌝ }
+{
+    if x == b { a } else { x }
+}
+
+// The label b becomes a everywhere.
+fn recolour(s: &mut [u8; LABELS], a: u8, b: u8)
+    requires { ⌜ length (now s) ≡ labels ⌝ }
+    ensures { λ _. ⌜ now (s .exit) ≡ relabel a b (now (s .entry)) ⌝ }
+{
+    let mut o = 0;
+    while o < LABELS {
+        s[o] = swapped(s[o], a, b);
+        o += 1;
+    }
+}
+
+// The groups of i and j become one.
+pub fn merge(s: &mut [u8; LABELS], i: usize, j: usize)
+    requires { ⌜ (i < labels) × (j < labels) × (length (now s) ≡ labels) ⌝ }
+    ensures { λ _. ⌜ now (s .exit) ≡ joinAt (now (s .entry)) i j ⌝ }
+{
+    let a = s[i];
+    let b = s[j];
+    if a != b {
+        recolour(s, a, b);
+    }
+}
+
+// ---- a slot joined as a code groups it
+
+// The label of the setting x in a code.
+fn label(code: u32, x: u32) -> u32
+    requires { ⌜ x < max-settings ⌝ }
+    ensures { λ r. ⌜ r ≡ label code x ⌝ }
+{
+    (code >> (3 * x)) & 7
+}
+
+// The first setting that has the label of the setting x.
+fn first_alike(code: u32, x: u32) -> u32
+    requires { ⌜ x < max-settings ⌝ }
+    ensures { λ r. ⌜ (r ≡ leader code x) × (r ≤ x) ⌝ }
+{
+    let v = label(code, x);
+    let mut i = 0;
+    while i < x {
+        if label(code, i) == v {
+            return i;
+        }
+        i += 1;
+    }
+    x
+}
+
+// The first a settings of a slot joined as the code groups them: each with the first one of its label.
+pub fn tie(s: &mut [u8; LABELS], slot: usize, a: u32, code: u32)
+    requires { ⌜ (length (now s) ≡ labels) × (slot ≤ max-kids) × (a ≤ max-settings) ⌝ }
+    ensures { λ _. ⌜ now (s .exit) ≡ tied (now (s .entry)) slot a code ⌝ }
+{
+    let base = slot * SETTINGS;
+    let mut x = 0;
+    while x < a {
+        let y = first_alike(code, x);
+        merge(s, base + y as usize, base + x as usize);
+        x += 1;
+    }
+}
+
+// ---- a slot dropped
+
+pub fn forget(s: &mut [u8; LABELS], slot: usize)
+    requires { ⌜ (length (now s) ≡ labels) × (slot ≤ max-kids) ⌝ }
+    ensures { λ _. ⌜ now (s .exit) ≡ forgotten (now (s .entry)) slot ⌝ }
+{
+    let base = slot * SETTINGS;
+    let mut x = 0;
+    while x < SETTINGS {
+        s[base + x] = NONE;
+        x += 1;
+    }
+}
+
+// ---- labels by first appearance
+
+// The number of the label x, which gets the next one if it has none yet.
+fn number(numbers: &mut [u8; LABELS], x: u8, next: u8) -> u8
+    requires { ⌜ (x < labels) × (length (now numbers) ≡ labels) ⌝ }
+    ensures { λ r. ⌜ Numbered (now (numbers .entry)) x next (now (numbers .exit)) r ⌝ }
+{
+    let at = wide(x);
+    let k = numbers[at];
+    if k == NONE {
+        numbers[at] = next;
+        return next;
+    }
+    k
+}
+
+// The same, where a label may be missing.
+fn renumber(numbers: &mut [u8; LABELS], x: u8, next: u8) -> u8
+    requires { ⌜ Low x × (length (now numbers) ≡ labels) ⌝ }
+    ensures { λ r. ⌜ Renumbered (now (numbers .entry)) x next (now (numbers .exit)) r ⌝ }
+{
+    if x == NONE {
+        return NONE;
+    }
+    number(numbers, x, next)
+}
+
+fn following(next: u8, k: u8) -> u8
+    requires { ⌜ next < none ⌝ }
+    ensures { λ r. ⌜ r ≡ pick (eqb k next) (next + 1) next ⌝ }
+{
+    if k == next { next + 1 } else { next }
+}
+
+// Labels by first appearance, so that equal groupings are equal arrays.
+pub fn tidy(s: &mut [u8; LABELS])
+    requires { ⌜ State (now s) ⌝ }
+    ensures { λ _. ⌜ now (s .exit) ≡ tidied (now (s .entry)) ⌝ }
+{
+    let mut numbers = [NONE; LABELS];
+    let mut next: u8 = 0;
+    let mut o = 0;
+    while o < LABELS {
+        let k = renumber(&mut numbers, s[o], next);
+        next = following(next, k);
+        s[o] = k;
+        o += 1;
+    }
+}
+
+// A label put behind the first x ones of a code.
+fn put_label(code: u32, x: u32, k: u8) -> u32
+    requires { ⌜ (x < max-settings) × (k < 8) × (code < 8 ^ x) ⌝ }
+    ensures { λ r. ⌜ (r ≡ code + k * 8 ^ x) × (r < 8 ^ (x + 1)) ⌝ }
+{
+    code | ((k as u32) << (3 * x))
+}
+
+// The code, by first appearance, of the first a settings of a slot, which are all there.
+pub fn view(s: &[u8; LABELS], slot: usize, a: u32) -> u32
+    requires { ⌜ State (now s) × (slot ≤ max-kids) × (a ≤ max-settings) × Whole (now s) slot a ⌝ }
+    ensures { λ r. ⌜ r ≡ viewed (now (s .entry)) slot a ⌝ }
+{
+    let base = slot * SETTINGS;
+    let mut numbers = [NONE; LABELS];
+    let mut next: u8 = 0;
+    let mut code: u32 = 0;
+    let mut x: u32 = 0;
+    while x < a {
+        let k = number(&mut numbers, s[base + x as usize], next);
+        next = following(next, k);
+        code = put_label(code, x, k);
+        x += 1;
+    }
+    code
+}
+
+// ---- states kept in a list
+
+// Whether the labels stand in t, from a place on.
+pub fn same_state(s: &[u8; LABELS], t: &[u8], from: usize) -> bool
+    requires { ⌜ (length (now s) ≡ labels) × (from + labels ≤ length (now t)) ⌝ }
+    ensures { λ r. ⌜ Tells r (part from labels (now (t .entry)) ≡ now (s .entry)) ⌝ }
+{
+    let mut o = 0;
+    while o < LABELS {
+        if s[o] != t[from + o] {
+            return false;
+        }
+        o += 1;
+    }
+    true
+}
+
+// The labels put into t, from a place on.
+pub fn copy_state(s: &[u8; LABELS], t: &mut [u8], from: usize)
+    requires { ⌜ (length (now s) ≡ labels) × (from + labels ≤ length (now t)) ⌝ }
+    ensures { λ _. ⌜ now (t .exit) ≡ place from (now (s .entry)) (now (t .entry)) ⌝ }
+{
+    let mut o = 0;
+    while o < LABELS {
+        t[from + o] = s[o];
+        o += 1;
+    }
+}
