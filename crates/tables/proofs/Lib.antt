@@ -6,3 +6,4 @@ pub mod Entries
 pub mod Promise
 pub mod StateLoops
 pub mod StateNumbers
+pub mod StatesSeen

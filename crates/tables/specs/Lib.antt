@@ -3,3 +3,4 @@ pub mod Entries
 pub mod Promise
 pub mod Memory
 pub mod State
+pub mod Seen

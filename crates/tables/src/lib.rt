@@ -1,2 +1,3 @@
 mod sets;
 mod labels;
+mod seen;
