@@ -1,7 +1,7 @@
 -- What the tables say of a tree. Where every node has the code that its children's codes give from the bottom up, and then the one that its
 -- parent's gives from the root down, the join at every node is the whole tree's chains there.
 use mathlib.Core.Path.{_≡_, refl, sym, _∙_, ap}
-use mathlib.Core.Logic.{_⊎_, inl, inr, _↔_}
+use mathlib.Core.Logic.{_⊎_, inl, inr, _↔_, Iff·rfl, Iff·symm, Iff·trans}
 use mathlib.Core.List.{List, [], _∷_, map}
 use Prim.Native.Nat.{ℕ, zero, suc, _+_, _<_}
 use native.Mathlib.Omega.{arith}
@@ -13,32 +13,13 @@ use Rattle.chains.specs.Grouping.{Says, Alike, Each, Members}
 use Rattle.chains.specs.Plausible.{Plausible}
 use Rattle.chains.specs.Feasible.{Feasible, root, down, Chosen}
 use Rattle.chains.specs.Choice.{kid-codes, ChosenUp, ChosenDown}
-use Rattle.chains.proofs.Local.{join-mono}
+use Rattle.chains.proofs.Local.{closure-iff}
 use Rattle.chains.proofs.Upward.{Up, Fits, Nowhere, chain-iff-up}
 use Rattle.chains.proofs.WellKinded.{kinded-fits, sub-kinded, sub-fits, root-kind, root-kids, one-tree}
 use Rattle.chains.proofs.Nodes.{sub-in, sub-one, sub-flat, sub-child, parent}
 use Rattle.chains.proofs.Around.{around-all}
 use Rattle.chains.proofs.Downward.{Through, Handed, Exactly, down-nodes}
 use Rattle.chains.proofs.Alike.{says-iff, alike-iff, alike-kept, closure-kept}
-
--- a closure is that of any slots' relations that hold at the same places
-closure-iff : (G : Grammar) (p : ℕ) (ρ ρ′ : ℕ → ℕ → Type 0) (σ σ′ : ℕ → ℕ → ℕ → Type 0) → ((a b : ℕ) → ρ a b ↔ ρ′ a b) → ((j a b : ℕ) → σ j a b ↔ σ′ j a b)
-    → (o o′ : Occ) → Closure G p (Slotwise ρ σ) o o′ ↔ Closure G p (Slotwise ρ′ σ′) o o′
-closure-iff G p ρ ρ′ σ σ′ hρ hσ o o′ = (join-mono G p (Slotwise ρ σ) (Slotwise ρ′ σ′) to, join-mono G p (Slotwise ρ′ σ′) (Slotwise ρ σ) from)
-  where
-    to : (s a b : ℕ) → Slotwise ρ σ s a b → Slotwise ρ′ σ′ s a b
-    to zero a b = hρ a b .0
-    to (suc j) a b = hσ j a b .0
-
-    from : (s a b : ℕ) → Slotwise ρ′ σ′ s a b → Slotwise ρ σ s a b
-    from zero a b = hρ a b .1
-    from (suc j) a b = hσ j a b .1
-
-same : {P : Type 0} → P ↔ P
-same = (λ p. p, λ p. p)
-
-after : {P Q R : Type 0} → P ↔ Q → Q ↔ R → P ↔ R
-after h k = (λ p. k .0 (h .0 p), λ r. h .1 (k .1 r))
 
 module _ (G : Grammar) (L : Lawful G) (U : ℕ → ℕ) where
   -- ── upward ──
@@ -52,13 +33,13 @@ module _ (G : Grammar) (L : Lawful G) (U : ℕ → ℕ) where
 
   -- the roots' codes relate what goes up
   pub codes-up : (f : Bush) (ks : List ℕ) (n : ℕ) → Kinded G f ks → ChosenUp G f n U → (j a b : ℕ) → Each G ks (map U (roots f n)) j a b ↔ Up G f j a b
-  codes-up nil [] n k rise j a b = same
+  codes-up nil [] n k rise j a b = Iff·rfl
   codes-up nil (x ∷ ks) n k rise j a b = absurd k
   codes-up (grow p cs rest) [] n k rise j a b = absurd k
   codes-up (grow p cs rest) (x ∷ ks) n k rise zero a b =
       let below = codes-up cs (G .kids p) (suc n) (k .1) (λ i q ds s. rise i q ds (inr (inl s))) in
-      rw (← k .0 .1) (after (up-alike n p cs (k .0 .0) (rise n p cs (inl (refl, refl, refl))) a b)
-      (closure-iff G p (λ a b. ⊥) (λ a b. ⊥) (Each G (G .kids p) (kid-codes U n cs)) (Up G cs) (λ a b. same) below (0, a) (0, b)))
+      rw (← k .0 .1) (Iff·trans (up-alike n p cs (k .0 .0) (rise n p cs (inl (refl, refl, refl))) a b)
+      (closure-iff G p (λ a b. ⊥) (λ a b. ⊥) (Each G (G .kids p) (kid-codes U n cs)) (Up G cs) (λ a b. Iff·rfl) below (0, a) (0, b)))
   codes-up (grow p cs rest) (x ∷ ks) n k rise (suc j) a b = codes-up rest ks (suc (n + size cs)) (k .2) (λ i q ds s. rise i q ds (inr (inr s))) j a b
 
   -- a tree is the subtree of its root
@@ -83,8 +64,8 @@ module _ (G : Grammar) (L : Lawful G) (U : ℕ → ℕ) where
         there : (a b : ℕ) → Closure G q (Slotwise (λ a b. ⊥) (Each G (G .kids q) (kid-codes U i ds))) (0, a) (0, b) ↔ Chain G (grow q ds nil) 0 (0, a) (0, b)
         there a b =
             let fits = sub-fits G f 0 i q ds (kinded-fits G L f (k ∷ []) kinded) s in
-            let (to, from) = chain-iff-up G (grow q ds nil) 0 0 0 a b fits refl in
-            after (closure-iff G q (λ a b. ⊥) (λ a b. ⊥) (Each G (G .kids q) (kid-codes U i ds)) (Up G ds) (λ a b. same) (kids-up i q ds s) (0, a) (0, b)) (from, to)
+            Iff·trans (closure-iff G q (λ a b. ⊥) (λ a b. ⊥) (Each G (G .kids q) (kid-codes U i ds)) (Up G ds) (λ a b. Iff·rfl) (kids-up i q ds s) (0, a) (0, b))
+            (Iff·symm (chain-iff-up G (grow q ds nil) 0 0 0 a b fits refl))
 
     -- So every node's code is plausible for its kind.
     pub node-plausible : (i q : ℕ) (ds : Bush) → Sub f 0 i q ds → Plausible G (G .left q) (U i)
@@ -103,7 +84,7 @@ module _ (G : Grammar) (L : Lawful G) (U : ℕ → ℕ) where
       -- the join at a node over its codes is the one over what goes up
       join-through : (i q : ℕ) (ds : Bush) → Sub f 0 i q ds → (o o′ : Occ) → Closure G q (Chosen G q (F i) (kid-codes U i ds)) o o′ ↔ Through G q (chosen i) ds o o′
       join-through i q ds s =
-          closure-iff G q (Alike G (G .left q) (F i)) (chosen i) (Each G (G .kids q) (kid-codes U i ds)) (Up G ds) (λ a b. rw (kind-at i q ds s) same) (kids-up i q ds s)
+          closure-iff G q (Alike G (G .left q) (F i)) (chosen i) (Each G (G .kids q) (kid-codes U i ds)) (Up G ds) (λ a b. rw (kind-at i q ds s) Iff·rfl) (kids-up i q ds s)
 
       handed : Handed G (Edge G f 0) chosen f 0
       handed i q ds s j m a b r =
@@ -112,13 +93,13 @@ module _ (G : Grammar) (L : Lawful G) (U : ℕ → ℕ) where
           let e : G .left (getD (flat f) m 0) ≡ getD (G .kids q) j 0 = kind-at m q′ es (sub-child f 0 i q ds m q′ es s t) ∙ hd .1 in
           let alike = alike-iff G (getD (G .kids q) j 0) (F m) (λ a b. Closure G q (Chosen G q (F i) (kid-codes U i ds)) (suc j, a) (suc j, b))
               (fall .child i q ds s j m r) (λ a. done) (closure-kept G L q there (Alike G (G .left q) (F i)) (alike-kept G (G .left q) (F i)) (kid-codes U i ds) (suc j)) a b in
-          rw e (after alike (join-through i q ds s (suc j, a) (suc j, b)))
+          rw e (Iff·trans alike (join-through i q ds s (suc j, a) (suc j, b)))
 
       root-alike : (f : Bush) → Kinded G f (k ∷ []) → ChosenUp G f 0 U → (a b : ℕ) → Chain G f 0 (0, a) (0, b) ↔ Alike G (G .left (getD (flat f) 0 0)) (U 0) a b
       root-alike nil h u a b = absurd h
       root-alike (grow p cs rest) h u a b =
           let (to, from) = codes-up (grow p cs rest) (k ∷ []) 0 h u 0 a b in
-          rw (h .0 .1) (after (chain-iff-up G (grow p cs rest) 0 0 0 a b (kinded-fits G L (grow p cs rest) (k ∷ []) h) refl) (from, to))
+          rw (h .0 .1) (Iff·trans (chain-iff-up G (grow p cs rest) 0 0 0 a b (kinded-fits G L (grow p cs rest) (k ∷ []) h) refl) (from, to))
 
       exactly : Exactly G (Edge G f 0) chosen f 0
       exactly j m a b r = let e = one-tree G f k 0 j m kinded r .1 in rw (e, fall .root) (root-alike f kinded rise a b)
@@ -129,7 +110,7 @@ module _ (G : Grammar) (L : Lawful G) (U : ℕ → ℕ) where
       entries i q ds s o o′ x y h h′ =
           let fits = kinded-fits G L f (k ∷ []) kinded in
           let (to, from) = join-through i q ds s o o′ in
-          after (down-nodes G (Edge G f 0) chosen Nowhere f 0 (around-all G f 0) fits handed exactly i q ds s o o′ x y h h′) (from, to)
+          Iff·trans (down-nodes G (Edge G f 0) chosen Nowhere f 0 (around-all G f 0) fits handed exactly i q ds s o o′ x y h h′) (from, to)
 
       -- The feasible code of a node says the whole tree's chains among the node's settings.
       pub whole-says : (i q : ℕ) (ds : Bush) → Sub f 0 i q ds → Says (G .settings (G .left q)) (F i) (λ a b. Chain G f 0 (i, a) (i, b))

@@ -32,7 +32,7 @@ pick-same false a = refl
 
 module _ {X : Type 0} where
   -- the ends of a pair that is joined have one label
-  joined-ends : (f : X → ℕ) (p q : X) → joinAtF f p q p ≡ joinAtF f p q q
+  pub joined-ends : (f : X → ℕ) (p q : X) → joinAtF f p q p ≡ joinAtF f p q q
   joined-ends f p q = pick-same (eqb (f p) (f q)) (f p) ∙ sym (rw (eq-eqb (f q) (f q) refl))
 
   -- what has one label after a pair is joined is chained by it
@@ -69,11 +69,34 @@ module _ {X : Type 0} where
   pub joinsF-iff : (es : List (X × X)) (f : X → ℕ) (x y : X) → (joinsF f es x ≡ joinsF f es y) ↔ Eqv (Link f es) x y
   joinsF-iff es f x y = (chained es f x y, keeps (joinsF f es) (kept es f))
 
+-- every pair's ends have P
+unfoldable pub Ends : {X : Type 0} → (X → Type 0) → List (X × X) → Type 0
+Ends P [] = Unit {0}
+Ends P (e ∷ es) = P (e .0) × P (e .1) × Ends P es
+
+module _ {X : Type 0} where
+  pub ends-map : (P Q : X → Type 0) → ((x : X) → P x → Q x) → (es : List (X × X)) → Ends P es → Ends Q es
+  unfolding Ends
+  ends-map P Q f [] h = tt
+  ends-map P Q f (e ∷ es) h = (f (e .0) (h .0), f (e .1) (h .1), ends-map P Q f es (h .2))
+
+  pub named-ends : (P : X → Type 0) (es : List (X × X)) → Ends P es → (x y : X) → Named es x y → P x × P y
+  unfolding Ends
+  named-ends P [] h x y n = absurd n
+  named-ends P (e ∷ es) h x y (inl (u, v)) = (rw u (h .0), rw v (h .1))
+  named-ends P (e ∷ es) h x y (inr n) = named-ends P es (h .2) x y n
+
+  -- labels that agree where P holds agree there after joining
+  pub joinsF-agree : (P : X → Type 0) (es : List (X × X)) (f g : X → ℕ) → ((x : X) → P x → f x ≡ g x) → Ends P es → (x : X) → P x → joinsF f es x ≡ joinsF g es x
+  unfolding joinsF Ends
+  joinsF-agree P [] f g h w x l = h x l
+  joinsF-agree P (e ∷ es) f g h w x l =
+      joinsF-agree P es (joinAtF f (e .0) (e .1)) (joinAtF g (e .0) (e .1)) (λ x l. rw (h (e .0) (w .0), h (e .1) (w .1), h x l)) (w .2) x l
+
 -- ---- from functions to lists
 -- every pair's ends are below n
-unfoldable pub Within : ℕ → List (ℕ × ℕ) → Type 0
-Within n [] = Unit {0}
-Within n (e ∷ es) = (e .0 < n) × (e .1 < n) × Within n es
+abbrev pub Within : ℕ → List (ℕ × ℕ) → Type 0
+Within n es = Ends (λ i. i < n) es
 
 pub getD-map : (f : ℕ → ℕ) (l : List ℕ) (i : ℕ) → i < length l → getD (map f l) i 0 ≡ f (getD l i 0)
 getD-map f [] i h = absurd (not-suc-le-zero h)
@@ -89,21 +112,14 @@ unfolding joins
 length-joins l [] = refl
 length-joins l (e ∷ es) = length-joins (joinAt l (e .0) (e .1)) es ∙ length-joinAt l (e .0) (e .1)
 
--- labels that agree below n agree there after joining
-pub joinsF-agree : (n : ℕ) (es : List (ℕ × ℕ)) (f g : ℕ → ℕ) → ((i : ℕ) → i < n → f i ≡ g i) → Within n es → (i : ℕ) → i < n → joinsF f es i ≡ joinsF g es i
-unfolding joinsF Within
-joinsF-agree n [] f g h w i l = h i l
-joinsF-agree n (e ∷ es) f g h w i l =
-    joinsF-agree n es (joinAtF f (e .0) (e .1)) (joinAtF g (e .0) (e .1)) (λ i l. rw (h (e .0) (w .0), h (e .1) (w .1), h i l)) (w .2) i l
-
 pub joins-at : (l : List ℕ) (es : List (ℕ × ℕ)) → Within (length l) es → (i : ℕ) → i < length l → getD (joins l es) i 0 ≡ joinsF (λ i. getD l i 0) es i
-unfolding joins joinsF Within relabel
+unfolding joins joinsF Ends relabel
 joins-at l [] w i h = refl
 joins-at l (e ∷ es) w i h =
     let l′ = joinAt l (e .0) (e .1) in
     let k : length l′ ≡ length l = length-joinAt l (e .0) (e .1) in
     joins-at l′ es (rw k (w .2)) i (rw k h)
-    ∙ joinsF-agree (length l) es (λ i. getD l′ i 0) (joinAtF (λ i. getD l i 0) (e .0) (e .1)) (λ i h. getD-map (swap (getD l (e .0) 0) (getD l (e .1) 0)) l i h) (w .2) i h
+    ∙ joinsF-agree (λ i. i < length l) es (λ i. getD l′ i 0) (joinAtF (λ i. getD l i 0) (e .0) (e .1)) (λ i h. getD-map (swap (getD l (e .0) 0) (getD l (e .1) 0)) l i h) (w .2) i h
 
 -- THEOREM: the same of lists of labels
 pub joins-iff : (l : List ℕ) (es : List (ℕ × ℕ)) → Within (length l) es → (i j : ℕ) → i < length l → j < length l
@@ -156,7 +172,7 @@ apart-iff n es w i j hi hj =
     at : (i : ℕ) → i < n → getD (joins (apart 0 n) es) i 0 ≡ joinsF self es i
     at i h =
         joins-at (apart 0 n) es (rw (length-apart 0 n) w) i (rw (length-apart 0 n) h)
-        ∙ joinsF-agree n es (λ i. getD (apart 0 n) i 0) self (λ i h. apart-at 0 n i h ∙ omega arith) w i h
+        ∙ joinsF-agree (λ i. i < n) es (λ i. getD (apart 0 n) i 0) self (λ i h. apart-at 0 n i h ∙ omega arith) w i h
 
     named : (i j : ℕ) → Link self es i j → Eqv (Named es) i j
     named i j (inl e) = subst (λ (k : ℕ). Eqv (Named es) i k) e done

@@ -5,6 +5,7 @@ pub mod Local
 pub mod Upward
 pub mod Labels
 pub mod Appearance
+pub mod LabelLoops
 pub mod Codes
 pub mod Decided
 pub mod Says
@@ -15,6 +16,8 @@ pub mod Plausible
 pub mod Feasible
 pub mod Gather
 pub mod Gathered
+pub mod State
+pub mod Tying
 pub mod Nodes
 pub mod Read
 pub mod Around

@@ -12,7 +12,7 @@ use Rattle.chains.specs.Chain.{done, Chain, Slotwise, Closure}
 use Rattle.chains.specs.Grouping.{Says, Alike, Each, Members}
 use Rattle.chains.specs.Plausible.{Plausible}
 use Rattle.chains.specs.Steps.{StepUp}
-use Rattle.chains.proofs.Local.{join-mono}
+use Rattle.chains.proofs.Local.{closure-iff}
 use Rattle.chains.proofs.Upward.{Up, chain-iff-up}
 use Rattle.chains.proofs.WellKinded.{kinded-fits}
 use Rattle.chains.proofs.Says.{Code, says-unique, says-map, alike-says, members-map}
@@ -47,14 +47,7 @@ module _ (G : Grammar) (L : Lawful G) where
   -- where the codes tell what the trees do, the closure of either is the other's
   told-closure : (p : ℕ) (f : Bush) (cs : List ℕ) → Told G f (G .kids p) cs → (a b : ℕ)
       → Closure G p (Slotwise (λ a b. ⊥) (Each G (G .kids p) cs)) (0, a) (0, b) ↔ Closure G p (Slotwise (λ a b. ⊥) (Up G f)) (0, a) (0, b)
-  told-closure p f cs t a b = (
-    join-mono G p (Slotwise (λ a b. ⊥) (Each G (G .kids p) cs)) (Slotwise (λ a b. ⊥) (Up G f)) (slot (Each G (G .kids p) cs) (Up G f) (λ j a b. t j a b .0)),
-    join-mono G p (Slotwise (λ a b. ⊥) (Up G f)) (Slotwise (λ a b. ⊥) (Each G (G .kids p) cs)) (slot (Up G f) (Each G (G .kids p) cs) (λ j a b. t j a b .1)),
-  )
-    where
-      slot : (σ τ : ℕ → ℕ → ℕ → Type 0) → ((j a b : ℕ) → σ j a b → τ j a b) → (s a b : ℕ) → Slotwise (λ a b. ⊥) σ s a b → Slotwise (λ a b. ⊥) τ s a b
-      slot σ τ h zero a b r = r
-      slot σ τ h (suc j) a b r = h j a b r
+  told-closure p f cs t a b = closure-iff G p (λ a b. ⊥) (λ a b. ⊥) (Each G (G .kids p) cs) (Up G f) (λ a b. (λ r. r, λ r. r)) t (0, a) (0, b)
 
   -- ---- every tree has a code, in every closed family
   module _ (S : ℕ → ℕ → Type 0) (closed : ClosedUp G S) where

@@ -20,85 +20,98 @@ use Rattle.chains.proofs.Separate.{separate}
 use Rattle.chains.proofs.Number.{Faithful, Given, Shows, Tells, faithful-none, faithful-iff, run}
 use Rattle.chains.proofs.Occurrences.{occurrence-listed, top-exists, child-exists, setting-at, at-setting, child-fitted, fitted-child}
 
--- F is the whole tree
-module _ (G : Grammar) (L : Lawful G) (F : Bush) (ks : List ℕ) (kinded : Kinded G F ks) (like : ℕ → Occ → Occ → Type 0) (num : Inst → ℕ) (next : ℕ → ℕ)
-    (told : Told G F like) (numbered : Numbered G F like num next) where
-  -- ── one node: S has been numbered before, the node's own settings among it ──
-  module _ (O : Inst → Inst → Type 0) (p n : ℕ) (cs rest : Bush) (A : Around G (Edge G F 0) O (grow p cs rest) n) (here : Sub F 0 n p cs)
-      (S : Inst → Type 0) (touch : (x : Inst) → S x → Touch (grow p cs rest) n x) (rooted : (a : ℕ) → a < G .settings (G .left p) → S (n, a)) where
-    kinded-here : Kinded G cs (G .kids p)
-    kinded-here = sub-kinded G F ks 0 n p cs kinded here .1
+-- ── the settings of one node's children ──
+-- what has been numbered once the children of the node n have, S having been before
+abbrev pub Then : Grammar → ℕ → ℕ → Bush → (Inst → Type 0) → Inst → Type 0
+Then G p n cs S x = S x ⊎ Given (setting n cs) (occurrences G 1 (G .kids p)) x
 
+module _ (G : Grammar) (p n : ℕ) (cs : Bush) (kinded : Kinded G cs (G .kids p)) where
+  -- a point given is a setting of a child, and a setting of a child is given
+  given-root : (x : Inst) → Given (setting n cs) (occurrences G 1 (G .kids p)) x → (j : ℕ) × Root cs (suc n) j (x .0) × (x .1 < G .settings (getD (G .kids p) j 0))
+  given-root x (o, m, ex) =
+      let (j, e, l, u, h) = child-exists G p o m in
+      let s = setting-at G n p cs kinded o h .0 in
+      let r : Root cs (suc n) j (setting n cs o .0) = subst (λ t. Slot n cs t (setting n cs o .0)) e s in
+      (j, rw ex r, rw ex u)
+
+  root-given : (j : ℕ) (x : Inst) → Root cs (suc n) j (x .0) → Fitted G cs (suc n) x → Given (setting n cs) (occurrences G 1 (G .kids p)) x
+  root-given j x r h =
+      let u = fitted-child G (suc n) cs (G .kids p) kinded j x r h in
+      let l = root-kids G cs (G .kids p) (suc n) j (x .0) kinded r in
+      let m = occurrence-listed G 1 (G .kids p) (suc j, x .1) (j, omega arith, l, u) in
+      ((suc j, x .1), m, sym (at-setting G n cs (suc j, x .1) x (r, refl)))
+
+  -- S meets the forest at its roots, and has the first root's settings
+  module _ (rest : Bush) (S : Inst → Type 0) (touch : (x : Inst) → S x → Touch (grow p cs rest) n x) (rooted : (a : ℕ) → a < G .settings (G .left p) → S (n, a)) where
     top-seen : (o : Occ) → List·Memᴰ o (occurrences G 0 (G .left p ∷ [])) → S (setting n cs o)
     top-seen o m = let (e, l, x) = top-exists G p o m in subst (λ s. S (getD (n ∷ roots cs (suc n)) s 0, o .1)) (sym e) (rooted (o .1) l)
 
-    -- a point given is a setting of a child, and a setting of a child is given
-    given-root : (x : Inst) → Given (setting n cs) (occurrences G 1 (G .kids p)) x → (j : ℕ) × Root cs (suc n) j (x .0) × (x .1 < G .settings (getD (G .kids p) j 0))
-    given-root x (o, m, ex) =
-        let (j, e, l, u, h) = child-exists G p o m in
-        let s = setting-at G n p cs kinded-here o h .0 in
-        let r : Root cs (suc n) j (setting n cs o .0) = subst (λ t. Slot n cs t (setting n cs o .0)) e s in
-        (j, rw ex r, rw ex u)
+    touch-kids : (x : Inst) → Then G p n cs S x → Touch cs (suc n) x
+    touch-kids x (inl s) u = absurd (free p n cs rest x (touch x s) u)
+    touch-kids x (inr g) u = let (j, r, l) = given-root x g in (j, r)
 
-    root-given : (j : ℕ) (x : Inst) → Root cs (suc n) j (x .0) → Fitted G cs (suc n) x → Given (setting n cs) (occurrences G 1 (G .kids p)) x
-    root-given j x r h =
-        let u = fitted-child G (suc n) cs (G .kids p) kinded-here j x r h in
-        let l = root-kids G cs (G .kids p) (suc n) j (x .0) kinded-here r in
-        let m = occurrence-listed G 1 (G .kids p) (suc j, x .1) (j, omega arith, l, u) in
-        ((suc j, x .1), m, sym (at-setting G n cs (suc j, x .1) x (r, refl)))
+    touch-rest : (x : Inst) → Then G p n cs S x ⊎ Fitted G cs (suc n) x → Touch rest (suc (n + size cs)) x
+    touch-rest x (inl (inl s)) = past p n cs rest x (touch x s)
+    touch-rest x (inl (inr g)) = let (j, r, l) = given-root x g in let h = root-in cs (suc n) j (x .0) r in λ u. absurd (omega arith)
+    touch-rest x (inr (q, ds, s, l)) = let h = sub-in cs (suc n) (x .0) q ds s in λ u. absurd (omega arith)
 
-    -- a chain from what was numbered before to a child's setting passes the node itself
+    -- the node's children, then what is below them, then the other trees: that is the forest
+    all-in-turn : (x : Inst) → (Then G p n cs S x ⊎ Fitted G cs (suc n) x) ⊎ Fitted G rest (suc (n + size cs)) x → S x ⊎ Fitted G (grow p cs rest) n x
+    all-in-turn x (inl (inl (inl s))) = inl s
+    all-in-turn x (inl (inl (inr g))) =
+        let (j, r, l) = given-root x g in
+        let (q, ds, s, u) = child-fitted G (suc n) cs (G .kids p) kinded j x r l in
+        inr (q, ds, inr (inl s), u)
+    all-in-turn x (inl (inr (q, ds, s, u))) = inr (q, ds, inr (inl s), u)
+    all-in-turn x (inr (q, ds, s, u)) = inr (q, ds, inr (inr s), u)
+
+    all-at-once : (x : Inst) → S x ⊎ Fitted G (grow p cs rest) n x → (Then G p n cs S x ⊎ Fitted G cs (suc n) x) ⊎ Fitted G rest (suc (n + size cs)) x
+    all-at-once x (inl s) = inl (inl (inl s))
+    all-at-once x (inr (q, ds, inl (e, ep, ec), u)) =
+        let u′ : x .1 < G .settings (G .left p) = rw ep u in
+        inl (inl (inl (subst (λ i. S (i, x .1)) (sym e) (rooted (x .1) u′))))
+    all-at-once x (inr (q, ds, inr (inl s), u)) = inl (inr (q, ds, s, u))
+    all-at-once x (inr (q, ds, inr (inr s), u)) = inr (q, ds, s, u)
+
+-- F is the whole tree
+module _ (G : Grammar) (L : Lawful G) (F : Bush) (ks : List ℕ) (kinded : Kinded G F ks) (like : ℕ → Occ → Occ → Type 0) (num : Inst → ℕ) (next : ℕ → ℕ)
+    (told : Told G F like) (numbered : Numbered G F like num next) where
+  -- ── one node ──
+  module _ (O : Inst → Inst → Type 0) (p n : ℕ) (cs rest : Bush) (A : Around G (Edge G F 0) O (grow p cs rest) n) (here : Sub F 0 n p cs) (below : Kinded G cs (G .kids p))
+      (S : Inst → Type 0) (touch : (x : Inst) → S x → Touch (grow p cs rest) n x) (rooted : (a : ℕ) → a < G .settings (G .left p) → S (n, a)) where
     own-setting : (b : Inst) → Top n b → Fitted G F 0 b → b .1 < G .settings (G .left p)
     own-setting b t (q, ds, s, l) =
         let s′ : Sub F 0 n q ds = rw t at s in
         let e = ap (λ q. G .left q) (sub-one F 0 n q p ds cs s′ here .0) in
         rw (← e) l
 
+    -- a chain from what was numbered before to a child's setting passes the node itself
     shows : Shows (Edge G F 0) num (like n) (setting n cs) S (occurrences G 0 (G .left p ∷ [])) (occurrences G 1 (G .kids p))
     shows x o s m c =
         let y = setting n cs o in
-        let (j, r, u) = given-root y (o, m, refl) in
+        let (j, r, u) = given-root G p n cs below y (o, m, refl) in
         let iy = root-in cs (suc n) j (y .0) r in
         let (b, t, d, d′) = separate G (Edge G F 0) O p n cs rest A y x (omega arith) (free p n cs rest x (touch x s)) (back c) in
-        let l : b .1 < G .settings (G .left p) = elim (chain-fitted G L F ks 0 kinded d) [ inl e ↦ (let e₀ = ap (λ (z : Inst). z .0) e in absurd (omega arith)) | inr h ↦ own-setting b t (h .1) ] in
+        let l : b .1 < G .settings (G .left p) = elim (chain-fitted G L F ks 0 kinded d)
+            [ inl e ↦ (let e₀ = ap (λ (z : Inst). z .0) e in absurd (omega arith)) | inr h ↦ own-setting b t (h .1) ] in
         ((0, b .1), occurrence-listed G 0 (G .left p ∷ []) (0, b .1) (0, refl, omega arith, l), subst (λ i. Chain G F 0 (i, b .1) y) t (back d))
 
     tells : Tells (Edge G F 0) num (like n) (setting n cs) (occurrences G 0 (G .left p ∷ [])) (occurrences G 1 (G .kids p))
     tells o o′ (inl m) m′ = told n p cs here o o′ (top-exists G p o m .2) (child-exists G p o′ m′ .4)
     tells o o′ (inr m) m′ = told n p cs here o o′ (child-exists G p o m .4) (child-exists G p o′ m′ .4)
 
-    -- what has been numbered once the node's children have
-    abbrev Then : Inst → Type 0
-    Then x = S x ⊎ Given (setting n cs) (occurrences G 1 (G .kids p)) x
-
-    node-walked : Faithful (Edge G F 0) num S (next n) → Faithful (Edge G F 0) num Then (next (suc n))
+    node-walked : Faithful (Edge G F 0) num S (next n) → Faithful (Edge G F 0) num (Then G p n cs S) (next (suc n))
     node-walked faith =
         run (Edge G F 0) num (like n) (setting n cs) (occurrences G 1 (G .kids p)) (occurrences G 0 (G .left p ∷ [])) (next n) (next (suc n)) S faith
-        top-seen shows tells (numbered .below n p cs here)
+        (top-seen G p n cs below rest S touch rooted) shows tells (numbered .below n p cs here)
 
-    touch-kids : (x : Inst) → Then x → Touch cs (suc n) x
-    touch-kids x (inl s) u = absurd (free p n cs rest x (touch x s) u)
-    touch-kids x (inr g) u = let (j, r, l) = given-root x g in (j, r)
-
-    touch-rest : (x : Inst) → Then x ⊎ Fitted G cs (suc n) x → Touch rest (suc (n + size cs)) x
-    touch-rest x (inl (inl s)) = past p n cs rest x (touch x s)
-    touch-rest x (inl (inr g)) = let (j, r, l) = given-root x g in let h = root-in cs (suc n) j (x .0) r in λ u. absurd (omega arith)
-    touch-rest x (inr (q, ds, s, l)) = let h = sub-in cs (suc n) (x .0) q ds s in λ u. absurd (omega arith)
-
-    all-in-turn : (x : Inst) → (Then x ⊎ Fitted G cs (suc n) x) ⊎ Fitted G rest (suc (n + size cs)) x → S x ⊎ Fitted G (grow p cs rest) n x
-    all-in-turn x (inl (inl (inl s))) = inl s
-    all-in-turn x (inl (inl (inr g))) =
-        let (j, r, l) = given-root x g in
-        let (q, ds, s, u) = child-fitted G (suc n) cs (G .kids p) kinded-here j x r l in
-        inr (q, ds, inr (inl s), u)
-    all-in-turn x (inl (inr (q, ds, s, u))) = inr (q, ds, inr (inl s), u)
-    all-in-turn x (inr (q, ds, s, u)) = inr (q, ds, inr (inr s), u)
-
-    all-at-once : (x : Inst) → S x ⊎ Fitted G (grow p cs rest) n x → (Then x ⊎ Fitted G cs (suc n) x) ⊎ Fitted G rest (suc (n + size cs)) x
-    all-at-once x (inl s) = inl (inl (inl s))
-    all-at-once x (inr (q, ds, inl (e, ep, ec), u)) = let u′ : x .1 < G .settings (G .left p) = rw ep u in inl (inl (inl (subst (λ i. S (i, x .1)) (sym e) (rooted (x .1) u′))))
-    all-at-once x (inr (q, ds, inr (inl s), u)) = inl (inr (q, ds, s, u))
-    all-at-once x (inr (q, ds, inr (inr s), u)) = inr (q, ds, s, u)
+    forest-walked : Faithful (Edge G F 0) num (λ x. (Then G p n cs S x ⊎ Fitted G cs (suc n) x) ⊎ Fitted G rest (suc (n + size cs)) x) (next (suc (n + size cs) + size rest))
+        → Faithful (Edge G F 0) num (λ x. S x ⊎ Fitted G (grow p cs rest) n x) (next (n + suc (size cs + size rest)))
+    forest-walked faith =
+        let e : suc (n + size cs) + size rest ≡ n + suc (size cs + size rest) = omega arith in
+        faithful-iff (Edge G F 0) num (λ x. (Then G p n cs S x ⊎ Fitted G cs (suc n) x) ⊎ Fitted G rest (suc (n + size cs)) x) (λ x. S x ⊎ Fitted G (grow p cs rest) n x)
+        (next (n + suc (size cs + size rest))) (all-in-turn G p n cs below rest S touch rooted) (all-at-once G p n cs below rest S touch rooted)
+        (subst (λ m. Faithful (Edge G F 0) num (λ x. (Then G p n cs S x ⊎ Fitted G cs (suc n) x) ⊎ Fitted G rest (suc (n + size cs)) x) (next m)) e faith)
 
   -- ── all nodes of a forest ──
   pub walk : (O : Inst → Inst → Type 0) (f : Bush) (n : ℕ) → Around G (Edge G F 0) O f n → ((i q : ℕ) (ds : Bush) → Sub f n i q ds → Sub F 0 i q ds)
@@ -108,18 +121,16 @@ module _ (G : Grammar) (L : Lawful G) (F : Bush) (ks : List ℕ) (kinded : Kinde
       rw add-zero (faithful-iff (Edge G F 0) num S (λ x. S x ⊎ Fitted G nil n x) (next n) (λ x s. inl s) (λ x u. elim u [ inl s ↦ s | inr h ↦ absurd (h .2) ]) faith)
   walk O (grow p cs rest) n A within S touch rooted faith =
       let here = within n p cs (inl (refl, refl, refl)) in
+      let below = sub-kinded G F ks 0 n p cs kinded here .1 in
       let own : (a : ℕ) → a < G .settings (G .left p) → S (n, a) = λ a l. rooted 0 (n, a) refl (p, cs, inl (refl, refl, refl), l) in
-      let before = Then O p n cs rest A here S touch own in
-      let faith₁ = node-walked O p n cs rest A here S touch own faith in
-      let faith₂ = walk (Above G O p n cs rest) cs (suc n) (around-children G (Edge G F 0) O p n cs rest A) (λ i q ds s. within i q ds (inr (inl s))) before
-          (touch-kids O p n cs rest A here S touch own) (λ j x r h. inr (root-given O p n cs rest A here S touch own j x r h)) faith₁ in
-      let e₂ : suc n + size cs ≡ suc (n + size cs) = omega arith in
-      let faith₃ = walk (Before G O p n cs rest) rest (suc (n + size cs)) (around-rest G (Edge G F 0) O p n cs rest A) (λ i q ds s. within i q ds (inr (inr s)))
-          (λ x. before x ⊎ Fitted G cs (suc n) x) (touch-rest O p n cs rest A here S touch own)
-          (λ j x r h. inl (inl (rooted (suc j) x r (h .0, h .1, inr (inr (h .2)), h .3)))) (rw e₂ at faith₂) in
-      let e₃ : suc (n + size cs) + size rest ≡ n + suc (size cs + size rest) = omega arith in
-      faithful-iff (Edge G F 0) num (λ x. (before x ⊎ Fitted G cs (suc n) x) ⊎ Fitted G rest (suc (n + size cs)) x) (λ x. S x ⊎ Fitted G (grow p cs rest) n x) (next (n + suc (size cs + size rest)))
-      (all-in-turn O p n cs rest A here S touch own) (all-at-once O p n cs rest A here S touch own) (rw e₃ at faith₃)
+      let children = walk (Above G O p n cs rest) cs (suc n) (around-children G (Edge G F 0) O p n cs rest A) (λ i q ds s. within i q ds (inr (inl s))) (Then G p n cs S)
+          (touch-kids G p n cs below rest S touch own) (λ j x r h. inr (root-given G p n cs below j x r h)) (node-walked O p n cs rest A here below S touch own faith) in
+      let e : suc n + size cs ≡ suc (n + size cs) = omega arith in
+      forest-walked O p n cs rest A here below S touch own
+      (walk (Before G O p n cs rest) rest (suc (n + size cs)) (around-rest G (Edge G F 0) O p n cs rest A) (λ i q ds s. within i q ds (inr (inr s)))
+      (λ x. Then G p n cs S x ⊎ Fitted G cs (suc n) x) (touch-rest G p n cs below rest S touch own)
+      (λ j x r h. inl (inl (rooted (suc j) x r (h .0, h .1, inr (inr (h .2)), h .3))))
+      (subst (λ m. Faithful (Edge G F 0) num (λ x. Then G p n cs S x ⊎ Fitted G cs (suc n) x) (next m)) e children))
 
 -- ── the whole tree ──
 module _ (G : Grammar) (L : Lawful G) (k : ℕ) (like : ℕ → Occ → Occ → Type 0) (num : Inst → ℕ) (next : ℕ → ℕ) where

@@ -3,27 +3,35 @@ use mathlib.Core.Path.{_≡_, refl, sym, ap, ap₂, _∙_}
 use mathlib.Core.Logic.{inl, inr}
 use mathlib.Core.Bool.{Bool, true, false, true≢false}
 use mathlib.Core.List.{List, [], _∷_, _++_, append-nil}
-use Prim.Native.Nat.{ℕ, zero, suc, _+_, _-_, _*_, _^_, _≤_, _<_}
-use native.Mathlib.Nat.{add-zero, pow-suc}
+use Prim.Native.Nat.{ℕ, zero, suc, _+_, _-_, _*_, _/_, _%_, _^_, _≤_, _<_}
+use native.Mathlib.Nat.{add-zero, add-assoc, pow-suc}
 use native.Mathlib.Numerals.{add-one}
 use native.Mathlib.Omega.{arith}
 use borrow.Author.Count.{below-more}
-use borrow.Author.Tests.{eqb-true, eq-eqb, ne-eqb}
+use borrow.Author.Tests.{eqb-true, eq-eqb, ne-eqb, lt-ltb, le-ltb}
 use lib.Dec.{eqb}
 use lib.Pow.{pow-add}
-use lib.ListN.{length, getD, set, replicate, length-set, length-replicate, replicate-append-replicate, take-append-drop}
-use lib.Seq.{set-getD, ext-getD, take-all}
+use lib.ListN.{length, getD, set, take, drop, drop-of-length-le, replicate, length-set, length-replicate, replicate-append-replicate, take-append-drop}
+use lib.Seq.{set-getD, ext-getD, take-all, take-suc-set, drop-cons}
 use Rattle.lists.specs.Pick.{pick}
 use Rattle.lists.specs.Part.{part, place}
+use Rattle.lists.specs.Sought.{Free, Least}
+use Rattle.lists.proofs.Sought.{free-none, free-more, free-fewer, least-once}
 use Rattle.lists.proofs.Parts.{length-part, getD-part}
 use Rattle.lists.proofs.Copied.{Copying, copy-turn, copy-done}
 use Rattle.lists.proofs.Carry.{placed}
 use Rattle.chains.specs.Limits.{max-settings}
-use Rattle.chains.specs.Grouping.{label}
-use Rattle.chains.specs.Labels.{swap, relabel, joinAt, joins}
-use Rattle.chains.proofs.Labels.{length-joinAt, joins-more}
+use Rattle.chains.specs.Grouping.{label, unpack}
+use Rattle.chains.specs.Labels.{swap, relabel, joinAt, joins, index}
+use Rattle.chains.specs.Labels as labelling
+use Rattle.chains.specs.State.{numbers, pairs-from, code-pairs}
+use Rattle.chains.proofs.Labels.{length-joinAt, length-labels}
+use Rattle.chains.proofs.Appearance.{index-at, index-first}
+use Rattle.chains.proofs.Codes.{length-unpack, unpack-at}
+use Rattle.book.specs.Format.{left-at, arity-at, pairs-at, bytes-at, ties-of}
+use Rattle.book.specs.Reading.{settings-of, kid-at, to-at, from-at}
 use Rattle.ranks.specs.Entries.{labels, none}
-use Rattle.tables.specs.State.{Low, spot, upto, with-label, leader, to-leader, tied, Numbered, Tells}
+use Rattle.tables.specs.State.{Low, spot, Readable, kind-in, width-in, own, apart, based, Numbered, Tells}
 
 -- ---- joining along pairs
 swap-same : (a x : ℕ) → swap a a x ≡ x
@@ -42,33 +50,163 @@ relabel-same a (x ∷ l) = ap₂ _∷_ (swap-same a x) (relabel-same a l)
 pub join-same : (l : List ℕ) (i j : ℕ) → getD l i 0 ≡ getD l j 0 → joinAt l i j ≡ l
 join-same l i j e = rw e (relabel-same (getD l j 0) l)
 
--- one pair more
-pub join-turn : (s : List ℕ) (f : ℕ → ℕ × ℕ) (i : ℕ) → joinAt (joins s (upto f i)) (f i .0) (f i .1) ≡ joins s (upto f (i + 1))
-unfolding upto joins
-join-turn s f i = rw (add-one i) (joins-more s (upto f i) (f i ∷ []))
+-- ---- a production's own occurrences, read off its entry
+module _ (b : List ℕ) (at : ℕ) where
+  pub left-kind : {t k : ℕ} → t ≡ 0 → k ≡ left-at b at → k ≡ kind-in b at t
+  left-kind {t} {k} e h = h ∙ sym (rw (eq-eqb t 0 e))
 
--- a slot tied so far
+  pub kid-kind : {t k : ℕ} → (t ≡ 0 → ⊥) → k ≡ kid-at b at (t - 1) → k ≡ kind-in b at t
+  kid-kind {t} {k} e h = h ∙ sym (rw (ne-eqb t 0 e))
+
+  pub no-slot : {t n : ℕ} → n ≡ arity-at b at → n < t → 0 ≡ width-in b at t
+  no-slot {t} {n} e h = sym (rw (lt-ltb (arity-at b at) t (rw e at h)))
+
+  pub some-slot : {t n k w : ℕ} → n ≡ arity-at b at → t ≤ n → k ≡ kind-in b at t → w ≡ settings-of b k → w ≡ width-in b at t
+  some-slot {t} {n} {k} {w} e h p q = q ∙ ap (settings-of b) p ∙ sym (rw (le-ltb (arity-at b at) t (rw e at h)))
+
+  pub own-there : (o : ℕ) {a t w : ℕ} → a ≡ o % max-settings → t ≡ o / max-settings → w ≡ width-in b at t → a < w → o ≡ own b at o
+  own-there o {a} {t} {w} p q r h = sym (rw (lt-ltb (o % max-settings) (width-in b at (o / max-settings)) (rw (p, r, q) at h)))
+
+  pub own-missing : (o : ℕ) {a t w : ℕ} → a ≡ o % max-settings → t ≡ o / max-settings → w ≡ width-in b at t → w ≤ a → none ≡ own b at o
+  own-missing o {a} {t} {w} p q r h = sym (rw (le-ltb (o % max-settings) (width-in b at (o / max-settings)) (rw (p, r, q) at h)))
+
+-- ---- every occurrence by itself
+labels-snoc : (f : ℕ → ℕ) (k n : ℕ) → labelling.labels f k (suc n) ≡ labelling.labels f k n ++ f (k + n) ∷ []
+unfolding labelling.labels
+labels-snoc f k zero = ap (λ (z : ℕ). f z ∷ []) (omega arith)
+labels-snoc f k (suc n) =
+    let e : suc k + n ≡ k + suc n = omega arith in
+    ap (λ (l : List ℕ). f k ∷ l) (labels-snoc f (suc k) n ∙ ap (λ (z : ℕ). labelling.labels f (suc k) n ++ f z ∷ []) e)
+
+-- the first o places have what f gives
+pub record Laying (f : ℕ → ℕ) (s : List ℕ) (o : ℕ) : Type 0 where
+  pub at : o ≤ labels
+  pub long : length s ≡ labels
+  pub held : take o s ≡ labelling.labels f 0 o
+
+pub lay-begun : (f : ℕ → ℕ) (s : List ℕ) → length s ≡ labels → Laying f s 0
+unfolding labelling.labels
+lay-begun f s h = record { at = omega arith; long = h; held = refl }
+
+module _ {f : ℕ → ℕ} {s : List ℕ} {o : ℕ} (h : Laying f s o) where
+  pub lay-turn : {x : ℕ} → o < labels → x ≡ f o → Laying f (set s o x) (o + 1)
+  lay-turn {x} l e =
+      let z : 0 + o ≡ o = omega arith in
+      record {
+        at = omega arith;
+        long = length-set s o x ∙ h .long;
+        held = ap (λ (k : ℕ). take k (set s o x)) (add-one o) ∙ take-suc-set s o x (omega (arith, h .long))
+            ∙ rw (h .held, e, add-one o) (sym (rw z at (labels-snoc f 0 o)));
+      }
+
+  pub lay-done : labels ≤ o → s ≡ labelling.labels f 0 labels
+  lay-done l =
+      let e : o ≡ labels = omega (arith, h .at) in
+      sym (take-all o s (omega (arith, h .long))) ∙ h .held ∙ ap (labelling.labels f 0) e
+
+-- ---- pairs joined so far
+-- the i-th of the ties that bytes name
+tie-next : (bs : List ℕ) (i : ℕ) → 2 * i + 1 < length bs
+    → numbers (ties-of (drop (2 * i) bs)) ≡ (getD bs (2 * i) 0, getD bs (2 * i + 1) 0) ∷ numbers (ties-of (drop (2 * (i + 1)) bs))
+unfolding ties-of
+tie-next bs i h =
+    let a : drop (2 * i) bs ≡ getD bs (2 * i) 0 ∷ drop (suc (2 * i)) bs = drop-cons bs (2 * i) 0 (omega arith) in
+    let b : drop (suc (2 * i)) bs ≡ getD bs (suc (2 * i)) 0 ∷ drop (suc (suc (2 * i))) bs = drop-cons bs (suc (2 * i)) 0 (omega arith) in
+    let one : 2 * i + 1 ≡ suc (2 * i) = omega arith in
+    let two : 2 * (i + 1) ≡ suc (suc (2 * i)) = omega arith in
+    rw (one, two, a, b) (ap₂ (λ x y. (x, y) ∷ numbers (ties-of (drop (suc (suc (2 * i))) bs))) (whole (getD bs (2 * i) 0)) (whole (getD bs (suc (2 * i)) 0)))
+  where
+    whole : (x : ℕ) → x / 8 * 8 + x % 8 ≡ x
+    whole x = omega arith
+
+pub record Basing (b : List ℕ) (at : ℕ) (s : List ℕ) (i : ℕ) : Type 0 where
+  pub few : i ≤ pairs-at b at
+  pub long : length s ≡ labels
+  pub held : joins s (numbers (ties-of (drop (2 * i) (bytes-at b at)))) ≡ based b at
+
+pub base-begun : (b : List ℕ) (at : ℕ) (s : List ℕ) → s ≡ apart b at → Basing b at s 0
+unfolding based
+base-begun b at s e = record {
+  few = omega arith;
+  long = ap length e ∙ length-labels (own b at) 0 labels;
+  held = ap (λ (l : List ℕ). joins l (numbers (ties-of (bytes-at b at)))) e;
+}
+
+module _ {b : List ℕ} {at : ℕ} {s : List ℕ} {i : ℕ} (h : Basing b at s i) (r : Readable b at) where
+  bytes-long : length (bytes-at b at) ≡ 2 * pairs-at b at
+  bytes-long = length-part (at + 3 + arity-at b at) (2 * pairs-at b at) b (r .room)
+
+  pub base-low : {x y : ℕ} → i < pairs-at b at → x ≡ to-at b at i → y ≡ from-at b at i → (x < labels) × (y < labels) × (length s ≡ labels)
+  base-low l p q = (rw p (r .low i l .0), rw q (r .low i l .1), h .long)
+
+  pub base-turn : (x y : ℕ) (s′ : List ℕ) → i < pairs-at b at → x ≡ to-at b at i → y ≡ from-at b at i → s′ ≡ joinAt s x y → Basing b at s′ (i + 1)
+  unfolding joins
+  base-turn x y s′ l p q j =
+      let bs = bytes-at b at in
+      let rest = numbers (ties-of (drop (2 * (i + 1)) bs)) in
+      let u : getD bs (2 * i) 0 ≡ x = getD-part (at + 3 + arity-at b at) (2 * pairs-at b at) b (2 * i) 0 (omega arith) ∙ sym p in
+      let v : getD bs (2 * i + 1) 0 ≡ y =
+          getD-part (at + 3 + arity-at b at) (2 * pairs-at b at) b (2 * i + 1) 0 (omega arith)
+          ∙ ap (λ (k : ℕ). getD b k 0) (sym (add-assoc (at + 3 + arity-at b at) (2 * i) 1)) ∙ sym q in
+      record {
+        few = omega arith;
+        long = ap length j ∙ length-joinAt s x y ∙ h .long;
+        held = ap (λ (l : List ℕ). joins l rest) j ∙ ap₂ (λ a b. joins s ((a, b) ∷ rest)) (sym u) (sym v)
+            ∙ ap (joins s) (sym (tie-next bs i (omega (arith, bytes-long)))) ∙ h .held;
+      }
+
+  pub base-done : pairs-at b at ≤ i → s ≡ based b at
+  unfolding joins ties-of
+  base-done l =
+      let k : length (bytes-at b at) ≤ 2 * i = omega (arith, bytes-long) in
+      let e : drop (2 * i) (bytes-at b at) ≡ [] = drop-of-length-le (bytes-at b at) k in
+      sym (rw e) ∙ h .held
+
+-- ---- a slot tied so far
 pub record Tying (s₀ : List ℕ) (t a c : ℕ) (s : List ℕ) (x : ℕ) : Type 0 where
   pub few : x ≤ a
   pub long : length s ≡ length s₀
-  pub held : s ≡ joins s₀ (upto (to-leader t c) x)
+  pub held : joins s (pairs-from t a c x (a - x)) ≡ joins s₀ (code-pairs t a c)
 
 pub tie-begun : (s : List ℕ) (t a c : ℕ) → Tying s t a c s 0
-unfolding joins upto
-tie-begun s t a c = record { few = omega arith; long = refl; held = refl }
+tie-begun s t a c =
+    let e : a - 0 ≡ a = omega arith in
+    record { few = omega arith; long = refl; held = rw e }
+
+-- of x's label, the first setting is where the label first stands in the code
+leader : (a c x y : ℕ) → x < a → Least (λ k. label c k ≡ label c x) (x + 1) y → y ≡ index (label c x) (unpack a c)
+leader a c x y l h = least-once (λ k. label c k ≡ label c x) (x + 1) (suc x) y (index (label c x) (unpack a c)) h found
+  where
+    n : length (unpack a c) ≡ a
+    n = length-unpack a c
+
+    low : index (label c x) (unpack a c) ≤ x
+    low = index-first (label c x) (unpack a c) x (rw n l) (unpack-at a c x l)
+
+    found : Least (λ k. label c k ≡ label c x) (suc x) (index (label c x) (unpack a c))
+    found = record {
+      below = omega (arith, low);
+      has = sym (unpack-at a c (index (label c x) (unpack a c)) (omega (arith, low))) ∙ index-at (label c x) (unpack a c) (omega (arith, low, n));
+      first = λ k b e. omega (arith, index-first (label c x) (unpack a c) k (omega (arith, low, n)) (unpack-at a c k (omega (arith, low)) ∙ e));
+    }
 
 module _ {s₀ : List ℕ} {t a c : ℕ} {s : List ℕ} {x : ℕ} (h : Tying s₀ t a c s x) where
-  pub tie-turn : (y : ℕ) (s′ : List ℕ) → x < a → y ≡ leader c x → s′ ≡ joinAt s (spot t y) (spot t x) → Tying s₀ t a c s′ (x + 1)
-  tie-turn y s′ l e j = record {
-    few = omega arith;
-    long = ap length j ∙ length-joinAt s (spot t y) (spot t x) ∙ h .long;
-    held = j ∙ ap (λ (k : ℕ). joinAt s (spot t k) (spot t x)) e ∙ ap (λ (u : List ℕ). joinAt u (spot t (leader c x)) (spot t x)) (h .held)
-        ∙ join-turn s₀ (to-leader t c) x;
-  }
+  pub tie-turn : (y : ℕ) (s′ : List ℕ) → x < a → Least (λ k. label c k ≡ label c x) (x + 1) y → s′ ≡ joinAt s (spot t y) (spot t x) → Tying s₀ t a c s′ (x + 1)
+  unfolding joins pairs-from
+  tie-turn y s′ l m j =
+      let e : a - x ≡ suc (a - suc x) = omega arith in
+      let g : joins s (pairs-from t a c x (suc (a - suc x))) ≡ joins s₀ (code-pairs t a c) = rw e at (h .held) in
+      record {
+        few = omega arith;
+        long = ap length j ∙ length-joinAt s (spot t y) (spot t x) ∙ h .long;
+        held = rw (add-one x, j, leader a c x y l m) g;
+      }
 
-  pub tie-done : a ≤ x → s ≡ tied s₀ t a c
-  unfolding tied
-  tie-done l = let e : x ≡ a = omega (arith, h .few) in h .held ∙ ap (λ (k : ℕ). joins s₀ (upto (to-leader t c) k)) e
+  pub tie-done : a ≤ x → s ≡ joins s₀ (code-pairs t a c)
+  unfolding joins pairs-from
+  tie-done l =
+      let e : a - x ≡ 0 = omega arith in
+      rw e at (h .held)
 
 -- ---- the search for a label
 -- three bits a label
@@ -78,31 +216,17 @@ two-eight (suc i) =
     let e : 3 * suc i ≡ 3 * i + 3 = omega arith in
     rw (e, pow-suc 8 i) (pow-add 2 (3 * i) 3 ∙ ap (λ (y : ℕ). y * 8) (two-eight i))
 
-module _ (c v : ℕ) where
-  pub with-label-begun : (x : ℕ) → v ≡ label c x → with-label c v (x - 0) 0 ≡ leader c x
-  with-label-begun x e =
-      let a : x - 0 ≡ x = omega arith in
-      rw (a, e)
+module _ (c x : ℕ) where
+  -- the label is that of the setting i, and of none before
+  pub alike-found : {i v : ℕ} → (i ≤ x) × Free (λ k. label c k ≡ label c x) i → v ≡ label c x → label c i ≡ v → Least (λ k. label c k ≡ label c x) (x + 1) i
+  alike-found (l, f) e h = record { below = omega arith; has = h ∙ e; first = f }
 
-  pub with-label-hit : (n i : ℕ) → label c i ≡ v → with-label c v n i ≡ i
-  unfolding with-label
-  with-label-hit zero i e = refl
-  with-label-hit (suc n) i e = rw (eq-eqb (label c i) v e)
+  pub alike-passed : {i v : ℕ} → i < x → Free (λ k. label c k ≡ label c x) i → v ≡ label c x → (label c i ≡ v → ⊥)
+      → (i + 1 ≤ x) × Free (λ k. label c k ≡ label c x) (i + 1)
+  alike-passed {i} l f e n = (omega arith, free-more (λ k. label c k ≡ label c x) i f (λ h. n (h ∙ sym e)))
 
-  miss : (n i : ℕ) → (label c i ≡ v → ⊥) → with-label c v (suc n) i ≡ with-label c v n (suc i)
-  unfolding with-label
-  miss n i e = rw (ne-eqb (label c i) v e)
-
-  pub with-label-miss : (x i : ℕ) → i < x → (label c i ≡ v → ⊥) → with-label c v (x - i) i ≡ with-label c v (x - (i + 1)) (i + 1)
-  with-label-miss x i h e =
-      let a : x - i ≡ suc (x - (i + 1)) = omega arith in
-      rw (a, add-one i) (miss (x - suc i) i e)
-
-  pub with-label-done : (x i : ℕ) → i ≤ x → x ≤ i → with-label c v (x - i) i ≡ x
-  unfolding with-label
-  with-label-done x i h k =
-      let a : x - i ≡ 0 = omega arith in
-      rw a (omega arith)
+  pub alike-last : {i : ℕ} → (i ≤ x) × Free (λ k. label c k ≡ label c x) i → x ≤ i → Least (λ k. label c k ≡ label c x) (x + 1) x
+  alike-last {i} (l, f) h = record { below = omega arith; has = refl; first = free-fewer (λ k. label c k ≡ label c x) x i h f }
 
 -- ---- labels that may be missing
 pub low-label : {x : ℕ} → Low x → (x ≡ none → ⊥) → x < labels

@@ -20,9 +20,11 @@ use Rattle.lists.proofs.Parts.{length-part, getD-part}
 use Rattle.chains.specs.Limits.{max-settings, max-kids}
 use Rattle.chains.specs.Grouping.{pack}
 use Rattle.chains.specs.Labels.{index, add, canonFrom, canon}
+use Rattle.chains.specs.State.{code-on}
 use Rattle.chains.proofs.Appearance.{index-le}
+use Rattle.chains.proofs.State.{getD-any}
 use Rattle.ranks.specs.Entries.{labels, none}
-use Rattle.tables.specs.State.{Low, State, Whole, spot, tidyFrom, tidied, viewed, Numbered, Renumbered}
+use Rattle.tables.specs.State.{Low, State, Whole, spot, tidyFrom, tidied, Numbered, Renumbered}
 use Rattle.tables.proofs.StateLoops.{two-eight, low-label}
 
 -- ---- where a label stands after others
@@ -153,12 +155,6 @@ pub record Tidying (s₀ s t : List ℕ) (n o : ℕ) : Type 0 where
   pub table : Table t n seen
   pub low : (i : ℕ) → o ≤ i → i < labels → Low (getD s i 0)
   pub held : take o s ++ tidyFrom seen (drop o s) ≡ tidied s₀
-
--- a label that is there, whatever would stand past the end
-pub getD-any : (l : List ℕ) (i d e : ℕ) → i < length l → getD l i d ≡ getD l i e
-getD-any [] i d e h = absurd (omega arith)
-getD-any (x ∷ l) zero d e h = refl
-getD-any (x ∷ l) (suc i) d e h = getD-any l i d e (omega arith)
 
 pub tidy-begun : {s : List ℕ} → State s → Tidying s s (replicate labels none) 0 0
 tidy-begun {s} h = record {
@@ -309,8 +305,7 @@ module _ {s : List ℕ} (st : State s) {u a : ℕ} (hu : u ≤ max-kids) (ha : a
       let m′ : Numbered t (getD (part (u * max-settings) a s) x 0) n t′ k = rw (slot-at x l) m in
       view-small h (omega (arith, slot-long)) (rw (slot-at x l) (slot-low x l)) (omega arith) m′
 
-  pub slot-done : {t : List ℕ} {n c x : ℕ} → Viewing (part (u * max-settings) a s) t n c x → a ≤ x → c ≡ viewed s u a
-  unfolding viewed
+  pub slot-done : {t : List ℕ} {n c x : ℕ} → Viewing (part (u * max-settings) a s) t n c x → a ≤ x → c ≡ code-on u a s
   slot-done h l = view-done h (omega (arith, slot-long))
 
 -- a label put behind x others by shift and or

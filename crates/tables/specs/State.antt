@@ -3,16 +3,15 @@
 use mathlib.Core.Path.{_≡_}
 use mathlib.Core.Logic.{_⊎_}
 use mathlib.Core.Bool.{Bool, true, false}
-use mathlib.Core.List.{List, [], _∷_, _++_}
-use Prim.Native.Nat.{ℕ, zero, suc, _+_, _-_, _*_, _/_, _%_, _<_}
+use mathlib.Core.List.{List, [], _∷_}
+use Prim.Native.Nat.{ℕ, _+_, _-_, _*_, _/_, _%_, _≤_, _<_}
 use lib.Dec.{eqb, ltb}
-use lib.ListN.{length, getD, set, replicate}
+use lib.ListN.{length, getD, set}
 use Rattle.lists.specs.Pick.{pick}
-use Rattle.lists.specs.Part.{part, place}
 use Rattle.chains.specs.Limits.{max-settings}
-use Rattle.chains.specs.Grouping.{label, pack}
 use Rattle.chains.specs.Labels as labelling
-use Rattle.book.specs.Format.{left-at, arity-at, pairs-at}
+use Rattle.chains.specs.State.{numbers}
+use Rattle.book.specs.Format.{left-at, arity-at, pairs-at, bytes-at, next-at, ties-of}
 use Rattle.book.specs.Reading.{settings-of, kid-at, to-at, from-at}
 use Rattle.ranks.specs.Entries.{labels, none}
 
@@ -32,7 +31,7 @@ pub record State (s : List ℕ) : Type 0 where
   pub long : length s ≡ labels
   pub low : (o : ℕ) → Low (getD s o none)
 
--- the number of the occurrence of setting a in slot t
+-- the number of setting a in slot t
 abbrev pub spot : ℕ → ℕ → ℕ
 spot t a = t * max-settings + a
 
@@ -41,6 +40,7 @@ abbrev pub Whole : List ℕ → ℕ → ℕ → Type 0
 Whole s t a = (x : ℕ) → x < a → Present s (spot t x)
 
 -- ── a production's own occurrences and pairs, off the entry at the place at of the book b ──
+-- the kind of slot t
 abbrev pub kind-in : List ℕ → ℕ → ℕ → ℕ
 kind-in b at t = pick (eqb t 0) (left-at b at) (kid-at b at (t - 1))
 
@@ -52,37 +52,18 @@ width-in b at t = pick (ltb (arity-at b at) t) 0 (settings-of b (kind-in b at t)
 abbrev pub own : List ℕ → ℕ → ℕ → ℕ
 own b at o = pick (ltb (o % max-settings) (width-in b at (o / max-settings))) o none
 
--- f 0, f 1, .., n of them
-unfoldable pub upto : {X : Type 0} → (ℕ → X) → ℕ → List X
-upto f zero = []
-upto f (suc n) = upto f n ++ f n ∷ []
+-- every occurrence by itself
+abbrev pub apart : List ℕ → ℕ → List ℕ
+apart b at = labelling.labels (own b at) 0 labels
 
-abbrev pub pair-at : List ℕ → ℕ → ℕ → ℕ × ℕ
-pair-at b at i = (to-at b at i, from-at b at i)
-
--- every occurrence by itself, then the ends of each pair joined
+-- the ends of each pair joined
 unfoldable pub based : List ℕ → ℕ → List ℕ
-based b at = labelling.joins (labelling.labels (own b at) 0 labels) (upto (pair-at b at) (pairs-at b at))
+based b at = labelling.joins (apart b at) (numbers (ties-of (bytes-at b at)))
 
--- ── a slot joined as a code groups it ──
--- the first setting from i on, of the next n, that has the label v in the code c; the one after them where none has it
-unfoldable pub with-label : ℕ → ℕ → ℕ → ℕ → ℕ
-with-label c v zero i = i
-with-label c v (suc n) i = pick (eqb (label c i) v) i (with-label c v n (suc i))
-
--- the first setting that c puts into one group with a
-abbrev pub leader : ℕ → ℕ → ℕ
-leader c a = with-label c (label c a) a 0
-
-abbrev pub to-leader : ℕ → ℕ → ℕ → ℕ × ℕ
-to-leader t c x = (spot t (leader c x), spot t x)
-
-unfoldable pub tied : List ℕ → ℕ → ℕ → ℕ → List ℕ
-tied s t a c = labelling.joins s (upto (to-leader t c) a)
-
--- ── a slot dropped ──
-unfoldable pub forgotten : List ℕ → ℕ → List ℕ
-forgotten s t = place (t * max-settings) (replicate max-settings none) s
+-- the entry is whole, and its pairs name occurrence numbers
+pub record Readable (b : List ℕ) (at : ℕ) : Type 0 where
+  pub room : next-at b at ≤ length b
+  pub low : (i : ℕ) → i < pairs-at b at → (to-at b at i < labels) × (from-at b at i < labels)
 
 -- ── labels by first appearance, those of `seen` having appeared already; none stays ──
 unfoldable pub tidyFrom : List ℕ → List ℕ → List ℕ
@@ -92,12 +73,7 @@ tidyFrom seen (x ∷ l) = pick (eqb x none) (none ∷ tidyFrom seen l) (labellin
 abbrev pub tidied : List ℕ → List ℕ
 tidied s = tidyFrom [] s
 
--- ── a slot's code ──
-unfoldable pub viewed : List ℕ → ℕ → ℕ → ℕ
-viewed s t a = pack (labelling.canon (part (t * max-settings) a s))
-
--- ── the table of numbers by which both are worked out ──
--- a table t of the numbers that labels have: what x has, or gets as the next one
+-- a table t of the numbers that labels have been given: what x has, or gets as the next one
 pub record Numbered (t : List ℕ) (x next : ℕ) (t′ : List ℕ) (r : ℕ) : Type 0 where
   pub answer : r ≡ pick (eqb (getD t x 0) none) next (getD t x 0)
   pub table : t′ ≡ set t x r

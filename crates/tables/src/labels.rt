@@ -1,16 +1,18 @@
 // The labels of a production's occurrences while its groups are worked out: equal labels stand in one group, and NONE where there is no such
 // occurrence or where it was dropped.
 ghost use mathlib.Core.Path.{_≡_};
-ghost use Prim.Native.Nat.{_+_, _*_, _/_, _%_, _^_, _<_, _≤_};
-ghost use lib.ListN.{length, getD, set};
+ghost use Prim.Native.Nat.{_+_, _*_, _^_, _<_, _≤_};
+ghost use lib.ListN.{length};
 ghost use lib.Dec.{eqb};
 ghost use Rattle.lists.specs.Pick.{pick};
 ghost use Rattle.lists.specs.Part.{part, place};
+ghost use Rattle.lists.specs.Sought.{Least};
 ghost use Rattle.chains.specs.Limits.{max-settings, max-kids};
-ghost use Rattle.chains.specs.Grouping.{label, pack};
-ghost use Rattle.chains.specs.Labels.{swap, relabel, joinAt, canon};
+ghost use Rattle.chains.specs.Grouping.{label};
+ghost use Rattle.chains.specs.Labels.{swap, relabel, joinAt, joins};
+ghost use Rattle.chains.specs.State.{code-pairs, dropped, code-on};
 ghost use Rattle.ranks.specs.Entries.{labels, none};
-ghost use Rattle.tables.specs.State.{Low, State, Whole, Numbered, Renumbered, spot, leader, tied, forgotten, tidied, viewed, Tells};
+ghost use Rattle.tables.specs.State.{Low, State, Whole, Readable, kind-in, width-in, own, apart, based, Numbered, Renumbered, tidied, Tells};
 
 // Settings to a slot, and slots to a production: what an occurrence number counts.
 pub const SETTINGS: usize = 8;
@@ -58,20 +60,80 @@ pub fn merge(s: &mut [u8; LABELS], i: usize, j: usize)
     }
 }
 
+// ---- a production's own occurrences and pairs
+
+// The kind of a slot.
+fn kind(book: &[u8], at: usize, slot: u8) -> u8
+    ensures { λ r. ⌜ r ≡ kind-in (now (book .entry)) at slot ⌝ }
+{
+    if slot == 0 {
+        book::left(book, at)
+    } else {
+        book::kid(book, at, slot - 1)
+    }
+}
+
+// The number of settings in a slot.
+pub fn width(book: &[u8], at: usize, slot: u8) -> u8
+    ensures { λ r. ⌜ r ≡ width-in (now (book .entry)) at slot ⌝ }
+{
+    if book::arity(book, at) < slot {
+        return 0;
+    }
+    book::settings(book, kind(book, at, slot))
+}
+
+// An occurrence's own number, if it exists.
+fn own(book: &[u8], at: usize, o: u8) -> u8
+    ensures { λ r. ⌜ r ≡ own (now (book .entry)) at o ⌝ }
+{
+    if book::setting(o) < width(book, at, book::slot(o)) {
+        o
+    } else {
+        NONE
+    }
+}
+
+// Every occurrence by itself.
+fn lay(book: &[u8], at: usize, s: &mut [u8; LABELS])
+    requires { ⌜ length (now s) ≡ labels ⌝ }
+    ensures { λ _. ⌜ now (s .exit) ≡ apart (now (book .entry)) at ⌝ }
+{
+    let mut o = 0;
+    while o < LABELS {
+        s[o] = own(book, at, o as u8);
+        o += 1;
+    }
+}
+
+// Then the ends of each pair of the entry at `at` joined: the base grouping.
+pub fn base(book: &[u8], at: usize, s: &mut [u8; LABELS])
+    requires { ⌜ (length (now s) ≡ labels) × Readable (now book) at ⌝ }
+    ensures { λ _. ⌜ now (s .exit) ≡ based (now (book .entry)) at ⌝ }
+{
+    lay(book, at, s);
+    let n = book::pairs(book, at);
+    let mut i: u8 = 0;
+    while i < n {
+        merge(s, wide(book::to(book, at, i)), wide(book::from(book, at, i)));
+        i += 1;
+    }
+}
+
 // ---- a slot joined as a code groups it
 
 // The label of the setting x in a code.
-fn label(code: u32, x: u32) -> u32
+fn label(code: u32, x: u8) -> u8
     requires { ⌜ x < max-settings ⌝ }
     ensures { λ r. ⌜ r ≡ label code x ⌝ }
 {
-    (code >> (3 * x)) & 7
+    ((code >> (3 * x as u32)) & 7) as u8
 }
 
 // The first setting that has the label of the setting x.
-fn first_alike(code: u32, x: u32) -> u32
+fn first_alike(code: u32, x: u8) -> u8
     requires { ⌜ x < max-settings ⌝ }
-    ensures { λ r. ⌜ (r ≡ leader code x) × (r ≤ x) ⌝ }
+    ensures { λ r. ⌜ Least (λ k. label code k ≡ label code x) (x + 1) r ⌝ }
 {
     let v = label(code, x);
     let mut i = 0;
@@ -85,11 +147,11 @@ fn first_alike(code: u32, x: u32) -> u32
 }
 
 // The first a settings of a slot joined as the code groups them: each with the first one of its label.
-pub fn tie(s: &mut [u8; LABELS], slot: usize, a: u32, code: u32)
+pub fn tie(s: &mut [u8; LABELS], slot: u8, a: u8, code: u32)
     requires { ⌜ (length (now s) ≡ labels) × (slot ≤ max-kids) × (a ≤ max-settings) ⌝ }
-    ensures { λ _. ⌜ now (s .exit) ≡ tied (now (s .entry)) slot a code ⌝ }
+    ensures { λ _. ⌜ now (s .exit) ≡ joins (now (s .entry)) (code-pairs slot a code) ⌝ }
 {
-    let base = slot * SETTINGS;
+    let base = slot as usize * SETTINGS;
     let mut x = 0;
     while x < a {
         let y = first_alike(code, x);
@@ -100,11 +162,11 @@ pub fn tie(s: &mut [u8; LABELS], slot: usize, a: u32, code: u32)
 
 // ---- a slot dropped
 
-pub fn forget(s: &mut [u8; LABELS], slot: usize)
+pub fn forget(s: &mut [u8; LABELS], slot: u8)
     requires { ⌜ (length (now s) ≡ labels) × (slot ≤ max-kids) ⌝ }
-    ensures { λ _. ⌜ now (s .exit) ≡ forgotten (now (s .entry)) slot ⌝ }
+    ensures { λ _. ⌜ now (s .exit) ≡ dropped slot (now (s .entry)) ⌝ }
 {
-    let base = slot * SETTINGS;
+    let base = slot as usize * SETTINGS;
     let mut x = 0;
     while x < SETTINGS {
         s[base + x] = NONE;
@@ -163,23 +225,23 @@ pub fn tidy(s: &mut [u8; LABELS])
 }
 
 // A label put behind the first x ones of a code.
-fn put_label(code: u32, x: u32, k: u8) -> u32
+fn put_label(code: u32, x: u8, k: u8) -> u32
     requires { ⌜ (x < max-settings) × (k < 8) × (code < 8 ^ x) ⌝ }
     ensures { λ r. ⌜ (r ≡ code + k * 8 ^ x) × (r < 8 ^ (x + 1)) ⌝ }
 {
-    code | ((k as u32) << (3 * x))
+    code | ((k as u32) << (3 * x as u32))
 }
 
 // The code, by first appearance, of the first a settings of a slot, which are all there.
-pub fn view(s: &[u8; LABELS], slot: usize, a: u32) -> u32
+pub fn view(s: &[u8; LABELS], slot: u8, a: u8) -> u32
     requires { ⌜ State (now s) × (slot ≤ max-kids) × (a ≤ max-settings) × Whole (now s) slot a ⌝ }
-    ensures { λ r. ⌜ r ≡ viewed (now (s .entry)) slot a ⌝ }
+    ensures { λ r. ⌜ r ≡ code-on slot a (now (s .entry)) ⌝ }
 {
-    let base = slot * SETTINGS;
+    let base = slot as usize * SETTINGS;
     let mut numbers = [NONE; LABELS];
     let mut next: u8 = 0;
     let mut code: u32 = 0;
-    let mut x: u32 = 0;
+    let mut x = 0;
     while x < a {
         let k = number(&mut numbers, s[base + x as usize], next);
         next = following(next, k);

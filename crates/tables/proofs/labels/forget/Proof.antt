@@ -3,7 +3,6 @@ use borrow.Author.Needs.{needs}
 use Prim.Native.Nat.{_*_, _-_}
 use native.Mathlib.Omega.{arith}
 use Rattle.chains.specs.Limits.{max-settings}
-use Rattle.tables.specs.State.{forgotten}
 use Rattle.tables.proofs.StateLoops.{Emptying, empty-begun, empty-turn, empty-done}
 use Rattle.tables.proofs.labels.forget.Statement.{statement}
 use Rattle.tables.proofs.labels.forget.Tie as tie
@@ -36,7 +35,6 @@ loop-again : tie.Need-loop-again Inv-loop μ-loop
 loop-again c = empty-turn (c .before .loop .inv) (c .loop-test .taken)
 
 returns : tie.Need-returns Inv-loop μ-loop
-unfolding forgotten
 returns c = empty-done (c .before .loop .inv) (c .loop-test .left)
 
 pub forget-spec : {M : Type 1} → statement M

@@ -1,6 +1,7 @@
 -- A slot tied as a code groups it. Assumes nothing.
 use borrow.Author.Needs.{needs}
 use Prim.Native.Nat.{_-_}
+use native.Mathlib.Omega.{arith}
 use Rattle.tables.proofs.StateLoops.{Tying, tie-begun, tie-turn, tie-done}
 use Rattle.tables.proofs.labels.tie.Statement.{statement}
 use Rattle.tables.proofs.labels.tie.Tie as tie
@@ -42,7 +43,7 @@ loop-less : tie.Need-loop-less Inv-loop μ-loop
 loop-less c = search needs
 
 loop-again : tie.Need-loop-again Inv-loop μ-loop
-loop-again c = tie-turn (c .before .before .before .before .loop .inv) _ _ (c .before .before .before .loop-test .taken) (c .before .before .first-alike .ensures .0) (c .merge .ensures)
+loop-again c = tie-turn (c .before .before .before .before .loop .inv) _ _ (c .before .before .before .loop-test .taken) (c .before .before .first-alike .ensures) (c .merge .ensures)
 
 returns : tie.Need-returns Inv-loop μ-loop
 returns c = tie-done (c .before .loop .inv) (c .loop-test .left)
