@@ -4,3 +4,4 @@ pub mod Promise
 pub mod Memory
 pub mod State
 pub mod Seen
+pub mod Visit
