@@ -1,12 +1,14 @@
 -- Reading bytes: 0 past the end, and one byte by two spellings of its place.
 use mathlib.Core.Path.{_≡_, ap, _∙_, sym}
 use mathlib.Core.List.{List}
-use Prim.Native.Nat.{ℕ, _+_, _*_, _≤_, _<_}
+use Prim.Native.Nat.{ℕ, _+_, _-_, _*_, _≤_, _<_}
 use native.Mathlib.Omega.{arith}
-use lib.ListN.{length, getD, List·getD-eq-default}
-use borrow.Author.Tests.{lt-ltb, le-ltb}
-use Rattle.book.specs.Format.{trailer, field}
-use Rattle.book.specs.Reading.{told}
+use lib.ListN.{length, getD, drop, length-drop, List·getD-eq-default}
+use lib.Seq.{length-take-le, getD-take, getD-drop}
+use borrow.Author.Tests.{lt-ltb, le-ltb, eq-eqb, ne-eqb}
+use Rattle.lists.specs.Part.{part}
+use Rattle.book.specs.Format.{trailer, field, left-at}
+use Rattle.book.specs.Reading.{told, kid-at, kind-in}
 
 pub past-end : (b : List ℕ) (n : ℕ) → length b ≤ n → 0 ≡ getD b n 0
 past-end b n h = sym (List·getD-eq-default b 0 h)
@@ -24,3 +26,16 @@ told-field b i h ea en el eh =
 
 pub told-none : (b : List ℕ) (i : ℕ) → length b < 12 → 0 ≡ told b i
 told-none b i h = rw (lt-ltb (length b) 12 h)
+
+pub length-part : (a n : ℕ) (b : List ℕ) → a + n ≤ length b → length (part a n b) ≡ n
+length-part a n b h = length-take-le n (drop a b) (omega (arith, length-drop a b))
+
+pub getD-part : (a n : ℕ) (b : List ℕ) (j : ℕ) → j < n → getD (part a n b) j 0 ≡ getD b (a + j) 0
+getD-part a n b j h = getD-take n (drop a b) j 0 h ∙ getD-drop a b j 0
+
+-- the kind of a slot, by cases
+pub slot-left : (b : List ℕ) (at s : ℕ) → s ≡ 0 → left-at b at ≡ kind-in b at s
+slot-left b at s e = rw (eq-eqb s 0 e)
+
+pub slot-kid : (b : List ℕ) (at s : ℕ) → (s ≡ 0 → ⊥) → kid-at b at (s - 1) ≡ kind-in b at s
+slot-kid b at s e = rw (ne-eqb s 0 e)

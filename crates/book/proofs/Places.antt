@@ -7,7 +7,7 @@ use native.Mathlib.Numerals.{add-one}
 use native.Mathlib.Omega.{arith}
 use lib.Dec.{ltb}
 use lib.ListN.{length, getD, set, length-set, replicate, length-replicate, getD-replicate}
-use lib.Seq.{getD-set-same, getD-set-other}
+use lib.Seq.{getD-set-same, getD-set-other, ext-getD}
 use borrow.Author.Tests.{lt-ltb, le-ltb}
 use Rattle.lists.specs.Pick.{pick}
 use Rattle.chains.specs.Limits.{max-prods}
@@ -75,3 +75,8 @@ walk-ends {b} {places} {n} {at} {p} w l = record { long = w .long; each = λ q h
     told-or-not : (q : ℕ) → q < max-prods → Dec (q < p) → getD places q 0 ≡ pick (ltb q (told b 2)) (entry b q) 0
     told-or-not q h (yes k) = rw (lt-ltb q (told b 2) (omega arith)) (w .written q k)
     told-or-not q h (no k) = rw (le-ltb q (told b 2) (omega arith)) (w .blank q (omega arith) h)
+
+-- THEOREM: an index is the only one of its book
+pub index-once : {b x y : List ℕ} → Index b x → Index b y → x ≡ y
+index-once {b} {x} {y} i j =
+    ext-getD 0 x y (i .long ∙ sym (j .long)) (λ p h. i .each p (omega (arith, i .long)) ∙ sym (j .each p (omega (arith, i .long))))

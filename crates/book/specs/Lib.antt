@@ -1,3 +1,5 @@
 pub mod Format
 pub mod Reading
 pub mod Refusals
+pub mod Answer
+pub mod Search

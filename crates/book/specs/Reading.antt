@@ -2,12 +2,13 @@
 -- Of an accepted book these are the fields of its grammar.
 use mathlib.Core.Path.{_≡_}
 use mathlib.Core.List.{List}
-use Prim.Native.Nat.{ℕ, _+_, _*_, _<_}
-use lib.Dec.{ltb}
+use Prim.Native.Nat.{ℕ, _+_, _-_, _*_, _<_}
+use lib.Dec.{ltb, eqb}
 use lib.ListN.{length, getD}
 use Rattle.lists.specs.Pick.{pick}
 use Rattle.chains.specs.Limits.{max-prods}
-use Rattle.book.specs.Format.{field, arity-at, next-at, entry}
+use Rattle.chains.specs.Grammar.{Tie}
+use Rattle.book.specs.Format.{field, left-at, arity-at, next-at, entry, occ}
 
 -- the i-th field of the trailer, where there is a trailer
 abbrev pub told : List ℕ → ℕ → ℕ
@@ -29,6 +30,13 @@ to-at b at i = getD b (at + 3 + arity-at b at + 2 * i) 0
 
 abbrev pub from-at : List ℕ → ℕ → ℕ → ℕ
 from-at b at i = getD b (at + 3 + arity-at b at + 2 * i + 1) 0
+
+abbrev pub pair-at : List ℕ → ℕ → ℕ → Tie
+pair-at b at i = (occ (to-at b at i), occ (from-at b at i))
+
+-- the kind of its slot s: 0 is the left kind, then the children
+abbrev pub kind-in : List ℕ → ℕ → ℕ → ℕ
+kind-in b at s = pick (eqb s 0) (left-at b at) (kid-at b at (s - 1))
 
 -- the place of the entry after it; past the book there is none
 abbrev pub following : List ℕ → ℕ → ℕ

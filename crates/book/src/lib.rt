@@ -2,14 +2,30 @@
 //
 // An accessor takes the book and, for a production, the place of its entry. It answers for every book and every place:
 // 0 where what is asked for is not there. Of an accepted book each is a field of the grammar (proofs/Accepted.antt).
+mod children;
+mod heads;
+mod layout;
 pub mod limits;
+mod masks;
+mod ties;
+mod walk;
 
 ghost use mathlib.Core.Path.{_≡_};
 ghost use Prim.Native.Nat.{_+_, _*_, _/_, _%_, _<_, _≤_, min};
 ghost use lib.ListN.{length, getD};
-ghost use Rattle.book.specs.Format.{field, arity-at, left-at, pairs-at, next-at, entry};
+ghost use Rattle.book.specs.Format.{arity-at, left-at, pairs-at, next-at, entry, prods};
 ghost use Rattle.chains.specs.Limits.{max-prods};
-ghost use Rattle.book.specs.Reading.{told, settings-of, mask-of, kid-at, to-at, from-at, following, Index};
+ghost use Rattle.book.specs.Reading.{told, settings-of, mask-of, kid-at, kind-in, to-at, from-at, following, Index};
+ghost use Rattle.book.specs.Refusals.{BookDue};
+ghost use Rattle.book.specs.Answer.{said};
+ghost use Rattle.book.specs.Search.{Opened};
+use walk::Row;
+
+// What the check of a book answers.
+pub enum Checked {
+    Accepted { kinds: u16, productions: u16 },
+    Refused { number: u8, place: u16 },
+}
 
 fn wide(x: u8) -> usize
     ensures { λ r. ⌜ (r ≡ x) × (r < 256) ⌝ }
@@ -109,6 +125,16 @@ pub fn kid(book: &[u8], at: usize, j: u8) -> u8
     byte(book, at, 2 + wide(j))
 }
 
+// The kind of its slot `s`: 0 is the left kind, then the children.
+pub fn kind_in(book: &[u8], at: usize, s: u8) -> u8
+    ensures { λ r. ⌜ r ≡ kind-in (now (book .entry)) at s ⌝ }
+{
+    if s == 0 {
+        return left(book, at);
+    }
+    kid(book, at, s - 1)
+}
+
 // Its number of pairs.
 pub fn pairs(book: &[u8], at: usize) -> u8
     ensures { λ r. ⌜ r ≡ pairs-at (now (book .entry)) at ⌝ }
@@ -199,4 +225,64 @@ pub fn setting(o: u8) -> u8
     ensures { λ r. ⌜ r ≡ o % 8 ⌝ }
 {
     o & 7
+}
+
+fn refused(number: u8, place: u8) -> Checked
+    ensures { λ r. ⌜ r ≡ Checked.Refused number place ⌝ }
+{
+    Checked::Refused {
+        number,
+        place: word(place),
+    }
+}
+
+// Refusals 1 to 8, each sought over the whole book before the next.
+pub fn check_book(book: &[u8]) -> Checked
+    ensures { λ r. ⌜ BookDue (now (book .entry)) (said r) ⌝ }
+{
+    if book.len() < limits::TRAILER {
+        return refused(1, 0);
+    }
+    if field(book, 0) != limits::EDITION {
+        return refused(2, 0);
+    }
+    if layout::out_of_range(book) {
+        return refused(3, 0);
+    }
+    if !layout::is_laid(book) {
+        return refused(4, 0);
+    }
+    check_entries(
+        book,
+        kinds(book) as u8,
+        productions(book) as u8,
+        start(book) as u8,
+    )
+}
+
+// Refusals 5 to 8, of a book that is laid out.
+fn check_entries(book: &[u8], n: u8, m: u8, first: u8) -> Checked
+    requires { ⌜ Opened (now book) n m first ⌝ }
+    ensures { λ r. ⌜ BookDue (now (book .entry)) (said r) ⌝ }
+{
+    let k = masks::first_bad_kind(book, n, first);
+    if k < n {
+        return refused(5, k);
+    }
+    let p = walk::first_bad(book, Row::Kids, n, first, m);
+    if p < m {
+        return refused(6, p);
+    }
+    let q = walk::first_bad(book, Row::Ties, n, first, m);
+    if q < m {
+        return refused(7, q);
+    }
+    let h = heads::first_headless(book, n, m);
+    if h < n {
+        return refused(8, h);
+    }
+    Checked::Accepted {
+        kinds: word(n),
+        productions: word(m),
+    }
 }

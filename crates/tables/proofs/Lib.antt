@@ -7,3 +7,8 @@ pub mod Promise
 pub mod StateLoops
 pub mod StateNumbers
 pub mod StatesSeen
+pub mod StateKept
+pub mod StateTidy
+pub mod State
+pub mod StateBase
+pub mod StateWalk

@@ -1,7 +1,7 @@
 -- A state: a label for each occurrence number of a production, while its groups are worked out. Two occurrences stand in one group where their
 -- labels are equal; an occurrence that does not exist, or that was dropped, has none.
 use mathlib.Core.Path.{_≡_}
-use mathlib.Core.Logic.{_⊎_}
+use mathlib.Core.Logic.{_⊎_, _↔_}
 use mathlib.Core.Bool.{Bool, true, false}
 use mathlib.Core.List.{List, [], _∷_}
 use Prim.Native.Nat.{ℕ, _+_, _-_, _*_, _/_, _%_, _≤_, _<_}
@@ -9,6 +9,8 @@ use lib.Dec.{eqb, ltb}
 use lib.ListN.{length, getD, set}
 use Rattle.lists.specs.Pick.{pick}
 use Rattle.chains.specs.Limits.{max-settings}
+use Rattle.chains.specs.Chain.{Eqv}
+use Rattle.chains.specs.Grouping.{label}
 use Rattle.chains.specs.Labels as labelling
 use Rattle.chains.specs.State.{numbers}
 use Rattle.book.specs.Format.{left-at, arity-at, pairs-at, bytes-at, next-at, ties-of}
@@ -38,6 +40,16 @@ spot t a = t * max-settings + a
 -- the first a settings of slot t are there
 abbrev pub Whole : List ℕ → ℕ → ℕ → Type 0
 Whole s t a = (x : ℕ) → x < a → Present s (spot t x)
+
+-- s′ has the occurrences that s has, and in one group what chains of s's groups and of R lead to
+pub record Joined (s : List ℕ) (R : ℕ → ℕ → Type 0) (s′ : List ℕ) : Type 0 where
+  pub state : State s′
+  pub present : (o : ℕ) → Present s′ o ↔ Present s o
+  pub same : (o o′ : ℕ) → Present s o → Present s o′ → Same s′ o o′ ↔ Eqv (λ x y. Same s x y ⊎ R x y) o o′
+
+-- what the code c puts into one group among the first a settings of slot t
+abbrev pub Grouped : ℕ → ℕ → ℕ → ℕ → ℕ → Type 0
+Grouped t a c x y = (i : ℕ) × (j : ℕ) × (i < a) × (j < a) × (x ≡ spot t i) × (y ≡ spot t j) × (label c i ≡ label c j)
 
 -- ── a production's own occurrences and pairs, off the entry at the place at of the book b ──
 -- the kind of slot t

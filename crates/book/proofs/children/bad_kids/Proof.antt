@@ -1,0 +1,69 @@
+use mathlib.Core.Path.{_∙_}
+use Prim.Native.Nat.{_-_}
+use native.Mathlib.Omega.{arith}
+use borrow.Author.Needs.{needs}
+use Rattle.book.proofs.Kin.{Kin, alien-left, many-kids, alien-kid, start-kid, kin-begins, kin-grows, kin-fair}
+use Rattle.book.proofs.Answers.{tells-yes, tells-no}
+use Rattle.book.proofs.children.bad_kids.Statement.{statement}
+use Rattle.book.proofs.children.bad_kids.Tie as tie
+
+abbrev Inv-loop : tie.InvT-loop
+Inv-loop book at n first k j₀ j = Kin book at n first j
+
+abbrev μ-loop : tie.MeasureT-loop
+μ-loop book at n first k j₀ j = k - j
+
+left-requires : tie.Need-left-requires Inv-loop μ-loop
+left-requires c κs = search needs
+
+returns : tie.Need-returns Inv-loop μ-loop
+returns c = tells-yes (alien-left (c .before .before .before .pre .0) (c .before .before .before .pre .1) (omega arith))
+
+arity-requires : tie.Need-arity-requires Inv-loop μ-loop
+arity-requires c κs = search needs
+
+returns-2 : tie.Need-returns-2 Inv-loop μ-loop
+returns-2 c = tells-yes (many-kids (c .before .before .before .before .before .pre .0) (c .before .before .before .before .before .pre .1) (omega arith))
+
+loop-holds : tie.Need-loop-holds Inv-loop μ-loop
+loop-holds c = kin-begins (c .before .before .before .before .before .pre .0) (c .before .before .before .before .before .pre .1) (omega arith) (omega arith)
+
+kid-requires : tie.Need-kid-requires Inv-loop μ-loop
+kid-requires c κs = search needs
+
+returns-3 : tie.Need-returns-3 Inv-loop μ-loop
+returns-3 c = tells-yes (alien-kid (c .before .before .before .before .before .before .before .before .before .pre .0) (c .before .before .before .before .before .before .before .before .before .pre .1) (c .before .before .before .loop .j) (omega arith) (omega arith))
+
+returns-4 : tie.Need-returns-4 Inv-loop μ-loop
+returns-4 c = tells-yes (start-kid (c .before .before .before .before .before .before .before .before .before .before .pre .0) (c .before .before .before .before .before .before .before .before .before .before .pre .1) (c .before .before .before .before .loop .j) (omega arith) (omega arith))
+
+add-j : tie.Need-add-j Inv-loop μ-loop
+add-j c = search needs
+
+loop-less : tie.Need-loop-less Inv-loop μ-loop
+loop-less c = search needs
+
+loop-again : tie.Need-loop-again Inv-loop μ-loop
+loop-again c = kin-grows (c .before .before .before .before .before .before .before .before .before .before .pre .0) (c .before .before .before .before .before .before .before .before .before .before .pre .1) (c .before .before .before .before .loop .inv) (omega arith) (omega arith) (λ e. c .if4 .left (c .before .before .kid .ensures ∙ e))
+
+returns-5 : tie.Need-returns-5 Inv-loop μ-loop
+returns-5 c = tells-no (kin-fair (c .before .before .before .before .before .before .before .pre .0) (c .before .before .before .before .before .before .before .pre .1) (c .before .loop .inv) (omega arith))
+
+pub bad-kids-spec : {M : Type 1} → statement M
+bad-kids-spec =
+    tie.close
+    (tie.spec
+    Inv-loop
+    μ-loop
+    left-requires
+    returns
+    arity-requires
+    returns-2
+    loop-holds
+    kid-requires
+    returns-3
+    returns-4
+    add-j
+    loop-less
+    loop-again
+    returns-5)
