@@ -12,3 +12,5 @@ pub mod StateTidy
 pub mod State
 pub mod StateBase
 pub mod StateWalk
+pub mod Choosing
+pub mod Gathering

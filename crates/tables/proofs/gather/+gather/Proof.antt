@@ -1,6 +1,13 @@
-use Prim.Native.Nat.{ℕ, _<_}
+-- Gathering meets its contract, by recursion on the turns left. Assumes nothing.
+use mathlib.Core.Path.{_∙_}
+use mathlib.Core.Logic.{⊎-elim}
+use Prim.Native.Nat.{ℕ, _≤_, _<_, _-_}
+use native.Mathlib.Omega.{arith}
+use borrow.Author.Needs.{needs}
 use borrow.Fn.Kinds.{In}
 use borrow.Fn.PlainCycle.{Measures, is, falls, and}
+use Rattle.tables.specs.Visit.{size-of}
+use Rattle.tables.proofs.Gathering.{one-less, reply-none, reply-known, Turning, loop-begun, loop-request, loop-state, loop-still, loop-added, loop-full, loop-end-added, loop-end-still, loop-long, loop-long-c, loop-long-seen}
 use Rattle.tables.proofs.gather.gather.Reads as gather
 use Rattle.tables.proofs.gather.gather.Kinds as gather-kinds
 use Rattle.tables.proofs.gather.+gather.Lts-gather as gather-lts
@@ -13,7 +20,7 @@ use Rattle.tables.proofs.gather.+gather.{statement}
 use Rattle.tables.proofs.gather.+gather.Tie.{close}
 
 abbrev μ-gather : Measures 5 gather-kinds.ps ℕ
-μ-gather κs a = ?
+μ-gather κs a = a .1 .0
 
 abbrev gather-at : ℕ → In 5 gather-kinds.ps
 gather-at t = and 5 gather-kinds.ps (is 5 gather-kinds.ps μ-gather t) gather.Pre
@@ -22,728 +29,197 @@ abbrev gather-below : ℕ → In 5 gather-kinds.ps
 gather-below t = and 5 gather-kinds.ps (falls 5 gather-kinds.ps _<_ μ-gather t) gather.Pre
 
 abbrev gather-Inv-loop : gather-lts.InvT-loop
-gather-Inv-loop j s lists seen₀ sets₀ counts₀ v n t₀ added₀ i₀ seen sets counts t added i = ?
+gather-Inv-loop j s lists seen₀ sets₀ counts₀ v n t₀ added₀ i₀ seen sets counts t added i = Turning v lists (j - 1) s sets₀ counts₀ seen sets counts t added i
 
 abbrev gather-μ-loop : gather-lts.MeasureT-loop
-gather-μ-loop j s lists seen₀ sets₀ counts₀ v n t₀ added₀ i₀ seen sets counts t added i = ?
+gather-μ-loop j s lists seen₀ sets₀ counts₀ v n t₀ added₀ i₀ seen sets counts t added i = n - i
 
--- src/gather.rt:89:9
-gather-enter-requires : (t : ℕ) → gather-lts.Need-enter-requires (
-  enter-reads.Asked,
-  enter-reads.Learnt,
-  known-reads.Asked,
-  known-reads.Learnt,
-  wide-reads.Asked,
-  wide-reads.Learnt,
-  choose-reads.Asked,
-  choose-reads.Learnt,
-  gather-below t,
-  gather.Post,
-  remember-reads.Asked,
-  remember-reads.Learnt,
-) (gather-at t) gather.Post gather-Inv-loop gather-μ-loop
-gather-enter-requires t c κs = ?
+module _ (t : ℕ) where
+  enter-requires : gather-lts.Need-enter-requires (enter-reads.Asked, enter-reads.Learnt, known-reads.Asked, known-reads.Learnt, wide-reads.Asked, wide-reads.Learnt, choose-reads.Asked, choose-reads.Learnt, gather-below t, gather.Post, remember-reads.Asked, remember-reads.Learnt) (gather-at t) gather.Post gather-Inv-loop gather-μ-loop
+  enter-requires c κs =
+      let q = rw (c .before .before .if1 .taken) at (c .before .before .before .before .before .before .before .pre .1) in
+      (q .ready, q .standing, q .order)
 
--- src/gather.rt:89:9
-gather-same-length : (t : ℕ) → gather-lts.Need-same-length (
-  enter-reads.Asked,
-  enter-reads.Learnt,
-  known-reads.Asked,
-  known-reads.Learnt,
-  wide-reads.Asked,
-  wide-reads.Learnt,
-  choose-reads.Asked,
-  choose-reads.Learnt,
-  gather-below t,
-  gather.Post,
-  remember-reads.Asked,
-  remember-reads.Learnt,
-) (gather-at t) gather.Post gather-Inv-loop gather-μ-loop
-gather-same-length t c = ?
+  same-length : gather-lts.Need-same-length (enter-reads.Asked, enter-reads.Learnt, known-reads.Asked, known-reads.Learnt, wide-reads.Asked, wide-reads.Learnt, choose-reads.Asked, choose-reads.Learnt, gather-below t, gather.Post, remember-reads.Asked, remember-reads.Learnt) (gather-at t) gather.Post gather-Inv-loop gather-μ-loop
+  same-length c = search needs
 
--- src/gather.rt:89:9
-gather-same-length-2 : (t : ℕ) → gather-lts.Need-same-length-2 (
-  enter-reads.Asked,
-  enter-reads.Learnt,
-  known-reads.Asked,
-  known-reads.Learnt,
-  wide-reads.Asked,
-  wide-reads.Learnt,
-  choose-reads.Asked,
-  choose-reads.Learnt,
-  gather-below t,
-  gather.Post,
-  remember-reads.Asked,
-  remember-reads.Learnt,
-) (gather-at t) gather.Post gather-Inv-loop gather-μ-loop
-gather-same-length-2 t c = ?
+  same-length-2 : gather-lts.Need-same-length-2 (enter-reads.Asked, enter-reads.Learnt, known-reads.Asked, known-reads.Learnt, wide-reads.Asked, wide-reads.Learnt, choose-reads.Asked, choose-reads.Learnt, gather-below t, gather.Post, remember-reads.Asked, remember-reads.Learnt) (gather-at t) gather.Post gather-Inv-loop gather-μ-loop
+  same-length-2 c = search needs
 
--- src/gather.rt:89:9
-gather-returns : (t : ℕ) → gather-lts.Need-returns (
-  enter-reads.Asked,
-  enter-reads.Learnt,
-  known-reads.Asked,
-  known-reads.Learnt,
-  wide-reads.Asked,
-  wide-reads.Learnt,
-  choose-reads.Asked,
-  choose-reads.Learnt,
-  gather-below t,
-  gather.Post,
-  remember-reads.Asked,
-  remember-reads.Learnt,
-) (gather-at t) gather.Post gather-Inv-loop gather-μ-loop
-gather-returns t c = ?
+  returns : gather-lts.Need-returns (enter-reads.Asked, enter-reads.Learnt, known-reads.Asked, known-reads.Learnt, wide-reads.Asked, wide-reads.Learnt, choose-reads.Asked, choose-reads.Learnt, gather-below t, gather.Post, remember-reads.Asked, remember-reads.Learnt) (gather-at t) gather.Post gather-Inv-loop gather-μ-loop
+  returns c =
+      let e = c .before .before .before .before .before .before .before .if1 .taken in
+      rw e (reply-none _ _ (rw e at (c .before .before .before .before .before .before .before .before .before .before .before .before .pre .1)) (c .before .before .before .before .enter .ensures))
 
--- src/gather.rt:91:8
-gather-known-requires : (t : ℕ) → gather-lts.Need-known-requires (
-  enter-reads.Asked,
-  enter-reads.Learnt,
-  known-reads.Asked,
-  known-reads.Learnt,
-  wide-reads.Asked,
-  wide-reads.Learnt,
-  choose-reads.Asked,
-  choose-reads.Learnt,
-  gather-below t,
-  gather.Post,
-  remember-reads.Asked,
-  remember-reads.Learnt,
-) (gather-at t) gather.Post gather-Inv-loop gather-μ-loop
-gather-known-requires t c κs = ?
+  known-requires : gather-lts.Need-known-requires (enter-reads.Asked, enter-reads.Learnt, known-reads.Asked, known-reads.Learnt, wide-reads.Asked, wide-reads.Learnt, choose-reads.Asked, choose-reads.Learnt, gather-below t, gather.Post, remember-reads.Asked, remember-reads.Learnt) (gather-at t) gather.Post gather-Inv-loop gather-μ-loop
+  known-requires c κs =
+      let q = c .before .before .before .before .before .before .pre .1 in
+      (omega (arith, q .ready .few), q .seen .long, q .standing .state .long)
 
--- src/gather.rt:92:9
-gather-same-length-3 : (t : ℕ) → gather-lts.Need-same-length-3 (
-  enter-reads.Asked,
-  enter-reads.Learnt,
-  known-reads.Asked,
-  known-reads.Learnt,
-  wide-reads.Asked,
-  wide-reads.Learnt,
-  choose-reads.Asked,
-  choose-reads.Learnt,
-  gather-below t,
-  gather.Post,
-  remember-reads.Asked,
-  remember-reads.Learnt,
-) (gather-at t) gather.Post gather-Inv-loop gather-μ-loop
-gather-same-length-3 t c = ?
+  same-length-3 : gather-lts.Need-same-length-3 (enter-reads.Asked, enter-reads.Learnt, known-reads.Asked, known-reads.Learnt, wide-reads.Asked, wide-reads.Learnt, choose-reads.Asked, choose-reads.Learnt, gather-below t, gather.Post, remember-reads.Asked, remember-reads.Learnt) (gather-at t) gather.Post gather-Inv-loop gather-μ-loop
+  same-length-3 c = search needs
 
--- src/gather.rt:92:9
-gather-returns-2 : (t : ℕ) → gather-lts.Need-returns-2 (
-  enter-reads.Asked,
-  enter-reads.Learnt,
-  known-reads.Asked,
-  known-reads.Learnt,
-  wide-reads.Asked,
-  wide-reads.Learnt,
-  choose-reads.Asked,
-  choose-reads.Learnt,
-  gather-below t,
-  gather.Post,
-  remember-reads.Asked,
-  remember-reads.Learnt,
-) (gather-at t) gather.Post gather-Inv-loop gather-μ-loop
-gather-returns-2 t c = ?
+  returns-2 : gather-lts.Need-returns-2 (enter-reads.Asked, enter-reads.Learnt, known-reads.Asked, known-reads.Learnt, wide-reads.Asked, wide-reads.Learnt, choose-reads.Asked, choose-reads.Learnt, gather-below t, gather.Post, remember-reads.Asked, remember-reads.Learnt) (gather-at t) gather.Post gather-Inv-loop gather-μ-loop
+  returns-2 c =
+      let e = one-less (c .before .before .before .before .before .before .before .before .args .j) (c .before .before .before .if1 .left) in
+      rw e (reply-known _ _ _ _ (rw e at (c .before .before .before .before .before .before .before .before .pre .1)) (rw e at (c .before .known .ensures (c .if2 .taken))))
 
--- src/gather.rt:94:26
-gather-sub-wide : (t : ℕ) → gather-lts.Need-sub-wide (
-  enter-reads.Asked,
-  enter-reads.Learnt,
-  known-reads.Asked,
-  known-reads.Learnt,
-  wide-reads.Asked,
-  wide-reads.Learnt,
-  choose-reads.Asked,
-  choose-reads.Learnt,
-  gather-below t,
-  gather.Post,
-  remember-reads.Asked,
-  remember-reads.Learnt,
-) (gather-at t) gather.Post gather-Inv-loop gather-μ-loop
-gather-sub-wide t c = ?
+  sub-wide : gather-lts.Need-sub-wide (enter-reads.Asked, enter-reads.Learnt, known-reads.Asked, known-reads.Learnt, wide-reads.Asked, wide-reads.Learnt, choose-reads.Asked, choose-reads.Learnt, gather-below t, gather.Post, remember-reads.Asked, remember-reads.Learnt) (gather-at t) gather.Post gather-Inv-loop gather-μ-loop
+  sub-wide c = omega arith
 
--- src/gather.rt:94:18
-gather-element-copy-out-wide : (t : ℕ) → gather-lts.Need-element-copy-out-wide (
-  enter-reads.Asked,
-  enter-reads.Learnt,
-  known-reads.Asked,
-  known-reads.Learnt,
-  wide-reads.Asked,
-  wide-reads.Learnt,
-  choose-reads.Asked,
-  choose-reads.Learnt,
-  gather-below t,
-  gather.Post,
-  remember-reads.Asked,
-  remember-reads.Learnt,
-) (gather-at t) gather.Post gather-Inv-loop gather-μ-loop
-gather-element-copy-out-wide t c = ?
+  element-copy-out-wide : gather-lts.Need-element-copy-out-wide (enter-reads.Asked, enter-reads.Learnt, known-reads.Asked, known-reads.Learnt, wide-reads.Asked, wide-reads.Learnt, choose-reads.Asked, choose-reads.Learnt, gather-below t, gather.Post, remember-reads.Asked, remember-reads.Learnt) (gather-at t) gather.Post gather-Inv-loop gather-μ-loop
+  element-copy-out-wide c = omega (arith, c .before .before .before .before .before .before .before .before .pre .1 .ready .few)
 
--- src/gather.rt:94:9
-gather-wide-requires : (t : ℕ) → gather-lts.Need-wide-requires (
-  enter-reads.Asked,
-  enter-reads.Learnt,
-  known-reads.Asked,
-  known-reads.Learnt,
-  wide-reads.Asked,
-  wide-reads.Learnt,
-  choose-reads.Asked,
-  choose-reads.Learnt,
-  gather-below t,
-  gather.Post,
-  remember-reads.Asked,
-  remember-reads.Learnt,
-) (gather-at t) gather.Post gather-Inv-loop gather-μ-loop
-gather-wide-requires t c κs = ?
+  wide-requires : gather-lts.Need-wide-requires (enter-reads.Asked, enter-reads.Learnt, known-reads.Asked, known-reads.Learnt, wide-reads.Asked, wide-reads.Learnt, choose-reads.Asked, choose-reads.Learnt, gather-below t, gather.Post, remember-reads.Asked, remember-reads.Learnt) (gather-at t) gather.Post gather-Inv-loop gather-μ-loop
+  wide-requires c κs = search needs
 
--- src/gather.rt:98:5
-gather-loop-holds : (t : ℕ) → gather-lts.Need-loop-holds (
-  enter-reads.Asked,
-  enter-reads.Learnt,
-  known-reads.Asked,
-  known-reads.Learnt,
-  wide-reads.Asked,
-  wide-reads.Learnt,
-  choose-reads.Asked,
-  choose-reads.Learnt,
-  gather-below t,
-  gather.Post,
-  remember-reads.Asked,
-  remember-reads.Learnt,
-) (gather-at t) gather.Post gather-Inv-loop gather-μ-loop
-gather-loop-holds t c = ?
+  loop-holds : gather-lts.Need-loop-holds (enter-reads.Asked, enter-reads.Learnt, known-reads.Asked, known-reads.Learnt, wide-reads.Asked, wide-reads.Learnt, choose-reads.Asked, choose-reads.Learnt, gather-below t, gather.Post, remember-reads.Asked, remember-reads.Learnt) (gather-at t) gather.Post gather-Inv-loop gather-μ-loop
+  loop-holds c =
+      let e = one-less (c .before .before .before .before .before .before .before .before .before .before .args .j) (c .before .before .before .before .before .if1 .left) in
+      (loop-begun _ _ _ _ (rw e at (c .before .before .before .before .before .before .before .before .before .before .pre .1)), omega arith)
 
--- src/gather.rt:99:19
-gather-sub-choose : (t : ℕ) → gather-lts.Need-sub-choose (
-  enter-reads.Asked,
-  enter-reads.Learnt,
-  known-reads.Asked,
-  known-reads.Learnt,
-  wide-reads.Asked,
-  wide-reads.Learnt,
-  choose-reads.Asked,
-  choose-reads.Learnt,
-  gather-below t,
-  gather.Post,
-  remember-reads.Asked,
-  remember-reads.Learnt,
-) (gather-at t) gather.Post gather-Inv-loop gather-μ-loop
-gather-sub-choose t c = ?
+  sub-choose : gather-lts.Need-sub-choose (enter-reads.Asked, enter-reads.Learnt, known-reads.Asked, known-reads.Learnt, wide-reads.Asked, wide-reads.Learnt, choose-reads.Asked, choose-reads.Learnt, gather-below t, gather.Post, remember-reads.Asked, remember-reads.Learnt) (gather-at t) gather.Post gather-Inv-loop gather-μ-loop
+  sub-choose c = omega arith
 
--- src/gather.rt:99:33
-gather-sub-choose-2 : (t : ℕ) → gather-lts.Need-sub-choose-2 (
-  enter-reads.Asked,
-  enter-reads.Learnt,
-  known-reads.Asked,
-  known-reads.Learnt,
-  wide-reads.Asked,
-  wide-reads.Learnt,
-  choose-reads.Asked,
-  choose-reads.Learnt,
-  gather-below t,
-  gather.Post,
-  remember-reads.Asked,
-  remember-reads.Learnt,
-) (gather-at t) gather.Post gather-Inv-loop gather-μ-loop
-gather-sub-choose-2 t c = ?
+  sub-choose-2 : gather-lts.Need-sub-choose-2 (enter-reads.Asked, enter-reads.Learnt, known-reads.Asked, known-reads.Learnt, wide-reads.Asked, wide-reads.Learnt, choose-reads.Asked, choose-reads.Learnt, gather-below t, gather.Post, remember-reads.Asked, remember-reads.Learnt) (gather-at t) gather.Post gather-Inv-loop gather-μ-loop
+  sub-choose-2 c = omega arith
 
--- src/gather.rt:99:32
-gather-mul-choose : (t : ℕ) → gather-lts.Need-mul-choose (
-  enter-reads.Asked,
-  enter-reads.Learnt,
-  known-reads.Asked,
-  known-reads.Learnt,
-  wide-reads.Asked,
-  wide-reads.Learnt,
-  choose-reads.Asked,
-  choose-reads.Learnt,
-  gather-below t,
-  gather.Post,
-  remember-reads.Asked,
-  remember-reads.Learnt,
-) (gather-at t) gather.Post gather-Inv-loop gather-μ-loop
-gather-mul-choose t c = ?
+  mul-choose : gather-lts.Need-mul-choose (enter-reads.Asked, enter-reads.Learnt, known-reads.Asked, known-reads.Learnt, wide-reads.Asked, wide-reads.Learnt, choose-reads.Asked, choose-reads.Learnt, gather-below t, gather.Post, remember-reads.Asked, remember-reads.Learnt) (gather-at t) gather.Post gather-Inv-loop gather-μ-loop
+  mul-choose c = omega arith
 
--- src/gather.rt:99:32
-gather-add-choose : (t : ℕ) → gather-lts.Need-add-choose (
-  enter-reads.Asked,
-  enter-reads.Learnt,
-  known-reads.Asked,
-  known-reads.Learnt,
-  wide-reads.Asked,
-  wide-reads.Learnt,
-  choose-reads.Asked,
-  choose-reads.Learnt,
-  gather-below t,
-  gather.Post,
-  remember-reads.Asked,
-  remember-reads.Learnt,
-) (gather-at t) gather.Post gather-Inv-loop gather-μ-loop
-gather-add-choose t c = ?
+  add-choose : gather-lts.Need-add-choose (enter-reads.Asked, enter-reads.Learnt, known-reads.Asked, known-reads.Learnt, wide-reads.Asked, wide-reads.Learnt, choose-reads.Asked, choose-reads.Learnt, gather-below t, gather.Post, remember-reads.Asked, remember-reads.Learnt) (gather-at t) gather.Post gather-Inv-loop gather-μ-loop
+  add-choose c = omega arith
 
--- src/gather.rt:99:26
-gather-mul-choose-2 : (t : ℕ) → gather-lts.Need-mul-choose-2 (
-  enter-reads.Asked,
-  enter-reads.Learnt,
-  known-reads.Asked,
-  known-reads.Learnt,
-  wide-reads.Asked,
-  wide-reads.Learnt,
-  choose-reads.Asked,
-  choose-reads.Learnt,
-  gather-below t,
-  gather.Post,
-  remember-reads.Asked,
-  remember-reads.Learnt,
-) (gather-at t) gather.Post gather-Inv-loop gather-μ-loop
-gather-mul-choose-2 t c = ?
+  mul-choose-2 : gather-lts.Need-mul-choose-2 (enter-reads.Asked, enter-reads.Learnt, known-reads.Asked, known-reads.Learnt, wide-reads.Asked, wide-reads.Learnt, choose-reads.Asked, choose-reads.Learnt, gather-below t, gather.Post, remember-reads.Asked, remember-reads.Learnt) (gather-at t) gather.Post gather-Inv-loop gather-μ-loop
+  mul-choose-2 c = omega (arith, c .before .before .before .before .before .before .before .before .before .before .before .before .pre .1 .ready .few)
 
--- src/gather.rt:99:26
-gather-shared-slice-read-choose : (t : ℕ) → gather-lts.Need-shared-slice-read-choose (
-  enter-reads.Asked,
-  enter-reads.Learnt,
-  known-reads.Asked,
-  known-reads.Learnt,
-  wide-reads.Asked,
-  wide-reads.Learnt,
-  choose-reads.Asked,
-  choose-reads.Learnt,
-  gather-below t,
-  gather.Post,
-  remember-reads.Asked,
-  remember-reads.Learnt,
-) (gather-at t) gather.Post gather-Inv-loop gather-μ-loop
-gather-shared-slice-read-choose t c = ?
+  shared-slice-read-choose : gather-lts.Need-shared-slice-read-choose (enter-reads.Asked, enter-reads.Learnt, known-reads.Asked, known-reads.Learnt, wide-reads.Asked, wide-reads.Learnt, choose-reads.Asked, choose-reads.Learnt, gather-below t, gather.Post, remember-reads.Asked, remember-reads.Learnt) (gather-at t) gather.Post gather-Inv-loop gather-μ-loop
+  shared-slice-read-choose c =
+      let e = one-less (c .before .before .before .before .before .before .before .before .before .before .before .before .before .args .j) (c .before .before .before .before .before .before .before .before .if1 .left) in
+      let q = rw e at (c .before .before .before .before .before .before .before .before .before .before .before .before .before .pre .1) in
+      let z = q .ready .sizes (c .before .before .before .before .before .before .before .before .before .before .before .before .before .args .j - 1) (omega arith) in
+      omega (arith, q .lists, q .ready .few)
 
--- src/gather.rt:99:9
-gather-choose-requires : (t : ℕ) → gather-lts.Need-choose-requires (
-  enter-reads.Asked,
-  enter-reads.Learnt,
-  known-reads.Asked,
-  known-reads.Learnt,
-  wide-reads.Asked,
-  wide-reads.Learnt,
-  choose-reads.Asked,
-  choose-reads.Learnt,
-  gather-below t,
-  gather.Post,
-  remember-reads.Asked,
-  remember-reads.Learnt,
-) (gather-at t) gather.Post gather-Inv-loop gather-μ-loop
-gather-choose-requires t c κs = ?
+  choose-requires : gather-lts.Need-choose-requires (enter-reads.Asked, enter-reads.Learnt, known-reads.Asked, known-reads.Learnt, wide-reads.Asked, wide-reads.Learnt, choose-reads.Asked, choose-reads.Learnt, gather-below t, gather.Post, remember-reads.Asked, remember-reads.Learnt) (gather-at t) gather.Post gather-Inv-loop gather-μ-loop
+  choose-requires c κs =
+      let e = one-less (c .before .before .before .before .before .before .before .before .before .before .before .before .before .before .args .j) (c .before .before .before .before .before .before .before .before .before .if1 .left) in
+      let q = rw e at (c .before .before .before .before .before .before .before .before .before .before .before .before .before .before .pre .1) in
+      (q .ready, omega (arith, q .ready .few), q .standing, c .before .before .before .loop .inv .1)
 
--- src/gather.rt:100:25
-gather-sub-gather : (t : ℕ) → gather-lts.Need-sub-gather (
-  enter-reads.Asked,
-  enter-reads.Learnt,
-  known-reads.Asked,
-  known-reads.Learnt,
-  wide-reads.Asked,
-  wide-reads.Learnt,
-  choose-reads.Asked,
-  choose-reads.Learnt,
-  gather-below t,
-  gather.Post,
-  remember-reads.Asked,
-  remember-reads.Learnt,
-) (gather-at t) gather.Post gather-Inv-loop gather-μ-loop
-gather-sub-gather t c = ?
+  sub-gather : gather-lts.Need-sub-gather (enter-reads.Asked, enter-reads.Learnt, known-reads.Asked, known-reads.Learnt, wide-reads.Asked, wide-reads.Learnt, choose-reads.Asked, choose-reads.Learnt, gather-below t, gather.Post, remember-reads.Asked, remember-reads.Learnt) (gather-at t) gather.Post gather-Inv-loop gather-μ-loop
+  sub-gather c = omega arith
 
--- src/gather.rt:100:15
-gather-gather-requires : (t : ℕ) → gather-lts.Need-gather-requires (
-  enter-reads.Asked,
-  enter-reads.Learnt,
-  known-reads.Asked,
-  known-reads.Learnt,
-  wide-reads.Asked,
-  wide-reads.Learnt,
-  choose-reads.Asked,
-  choose-reads.Learnt,
-  gather-below t,
-  gather.Post,
-  remember-reads.Asked,
-  remember-reads.Learnt,
-) (gather-at t) gather.Post gather-Inv-loop gather-μ-loop
-gather-gather-requires t c κs = ?
+  gather-requires : gather-lts.Need-gather-requires (enter-reads.Asked, enter-reads.Learnt, known-reads.Asked, known-reads.Learnt, wide-reads.Asked, wide-reads.Learnt, choose-reads.Asked, choose-reads.Learnt, gather-below t, gather.Post, remember-reads.Asked, remember-reads.Learnt) (gather-at t) gather.Post gather-Inv-loop gather-μ-loop
+  gather-requires c κs =
+      let e = one-less (c .before .before .before .before .before .before .before .before .before .before .before .before .before .before .before .before .before .before .before .args .j) (c .before .before .before .before .before .before .before .before .before .before .before .before .before .before .if1 .left) in
+      (omega arith, loop-request _ _ _ _ (rw e at (c .before .before .before .before .before .before .before .before .before .before .before .before .before .before .before .before .before .before .before .pre .1)) (c .before .before .before .before .before .before .before .before .loop .inv .0) (c .before .before .before .before .choose .ensures))
 
-gather-enum-told : (t : ℕ) → gather-lts.Need-enum-told (
-  enter-reads.Asked,
-  enter-reads.Learnt,
-  known-reads.Asked,
-  known-reads.Learnt,
-  wide-reads.Asked,
-  wide-reads.Learnt,
-  choose-reads.Asked,
-  choose-reads.Learnt,
-  gather-below t,
-  gather.Post,
-  remember-reads.Asked,
-  remember-reads.Learnt,
-) (gather-at t) gather.Post gather-Inv-loop gather-μ-loop
-gather-enum-told t c = ?
+  enum-told : gather-lts.Need-enum-told (enter-reads.Asked, enter-reads.Learnt, known-reads.Asked, known-reads.Learnt, wide-reads.Asked, wide-reads.Learnt, choose-reads.Asked, choose-reads.Learnt, gather-below t, gather.Post, remember-reads.Asked, remember-reads.Learnt) (gather-at t) gather.Post gather-Inv-loop gather-μ-loop
+  enum-told c = search needs
 
--- src/gather.rt:103:17
-gather-enum-told-2 : (t : ℕ) → gather-lts.Need-enum-told-2 (
-  enter-reads.Asked,
-  enter-reads.Learnt,
-  known-reads.Asked,
-  known-reads.Learnt,
-  wide-reads.Asked,
-  wide-reads.Learnt,
-  choose-reads.Asked,
-  choose-reads.Learnt,
-  gather-below t,
-  gather.Post,
-  remember-reads.Asked,
-  remember-reads.Learnt,
-) (gather-at t) gather.Post gather-Inv-loop gather-μ-loop
-gather-enum-told-2 t c = ?
+  enum-told-2 : gather-lts.Need-enum-told-2 (enter-reads.Asked, enter-reads.Learnt, known-reads.Asked, known-reads.Learnt, wide-reads.Asked, wide-reads.Learnt, choose-reads.Asked, choose-reads.Learnt, gather-below t, gather.Post, remember-reads.Asked, remember-reads.Learnt) (gather-at t) gather.Post gather-Inv-loop gather-μ-loop
+  enum-told-2 c = search needs
 
--- src/gather.rt:106:17
-gather-enum-told-3 : (t : ℕ) → gather-lts.Need-enum-told-3 (
-  enter-reads.Asked,
-  enter-reads.Learnt,
-  known-reads.Asked,
-  known-reads.Learnt,
-  wide-reads.Asked,
-  wide-reads.Learnt,
-  choose-reads.Asked,
-  choose-reads.Learnt,
-  gather-below t,
-  gather.Post,
-  remember-reads.Asked,
-  remember-reads.Learnt,
-) (gather-at t) gather.Post gather-Inv-loop gather-μ-loop
-gather-enum-told-3 t c = ?
+  enum-told-3 : gather-lts.Need-enum-told-3 (enter-reads.Asked, enter-reads.Learnt, known-reads.Asked, known-reads.Learnt, wide-reads.Asked, wide-reads.Learnt, choose-reads.Asked, choose-reads.Learnt, gather-below t, gather.Post, remember-reads.Asked, remember-reads.Learnt) (gather-at t) gather.Post gather-Inv-loop gather-μ-loop
+  enum-told-3 c = search needs
 
--- src/gather.rt:106:17
-gather-same-length-4 : (t : ℕ) → gather-lts.Need-same-length-4 (
-  enter-reads.Asked,
-  enter-reads.Learnt,
-  known-reads.Asked,
-  known-reads.Learnt,
-  wide-reads.Asked,
-  wide-reads.Learnt,
-  choose-reads.Asked,
-  choose-reads.Learnt,
-  gather-below t,
-  gather.Post,
-  remember-reads.Asked,
-  remember-reads.Learnt,
-) (gather-at t) gather.Post gather-Inv-loop gather-μ-loop
-gather-same-length-4 t c = ?
+  same-length-4 : gather-lts.Need-same-length-4 (enter-reads.Asked, enter-reads.Learnt, known-reads.Asked, known-reads.Learnt, wide-reads.Asked, wide-reads.Learnt, choose-reads.Asked, choose-reads.Learnt, gather-below t, gather.Post, remember-reads.Asked, remember-reads.Learnt) (gather-at t) gather.Post gather-Inv-loop gather-μ-loop
+  same-length-4 c =
+      let e = one-less (c .before .before .before .before .before .before .before .before .before .before .before .before .before .before .before .before .before .before .before .before .before .before .before .before .before .before .before .before .args .j) (c .before .before .before .before .before .before .before .before .before .before .before .before .before .before .before .before .before .before .before .before .before .before .before .if1 .left) in
+      let q = rw e at (c .before .before .before .before .before .before .before .before .before .before .before .before .before .before .before .before .before .before .before .before .before .before .before .before .before .before .before .before .pre .1) in
+      c .before .before .before .before .before .before .before .before .gather .kept .1 .1 .1 .1 .0 ∙ loop-long-seen _ _ _ _ q (c .before .before .before .before .before .before .before .before .before .before .before .before .before .before .before .before .before .loop .inv .0)
 
--- src/gather.rt:106:17
-gather-same-length-5 : (t : ℕ) → gather-lts.Need-same-length-5 (
-  enter-reads.Asked,
-  enter-reads.Learnt,
-  known-reads.Asked,
-  known-reads.Learnt,
-  wide-reads.Asked,
-  wide-reads.Learnt,
-  choose-reads.Asked,
-  choose-reads.Learnt,
-  gather-below t,
-  gather.Post,
-  remember-reads.Asked,
-  remember-reads.Learnt,
-) (gather-at t) gather.Post gather-Inv-loop gather-μ-loop
-gather-same-length-5 t c = ?
+  same-length-5 : gather-lts.Need-same-length-5 (enter-reads.Asked, enter-reads.Learnt, known-reads.Asked, known-reads.Learnt, wide-reads.Asked, wide-reads.Learnt, choose-reads.Asked, choose-reads.Learnt, gather-below t, gather.Post, remember-reads.Asked, remember-reads.Learnt) (gather-at t) gather.Post gather-Inv-loop gather-μ-loop
+  same-length-5 c =
+      let e = one-less (c .before .before .before .before .before .before .before .before .before .before .before .before .before .before .before .before .before .before .before .before .before .before .before .before .before .before .before .before .args .j) (c .before .before .before .before .before .before .before .before .before .before .before .before .before .before .before .before .before .before .before .before .before .before .before .if1 .left) in
+      let q = rw e at (c .before .before .before .before .before .before .before .before .before .before .before .before .before .before .before .before .before .before .before .before .before .before .before .before .before .before .before .before .pre .1) in
+      c .before .before .before .before .before .before .before .before .gather .kept .1 .1 .1 .1 .1 .0 ∙ loop-long _ _ _ _ q (c .before .before .before .before .before .before .before .before .before .before .before .before .before .before .before .before .before .loop .inv .0)
 
--- src/gather.rt:106:17
-gather-same-length-6 : (t : ℕ) → gather-lts.Need-same-length-6 (
-  enter-reads.Asked,
-  enter-reads.Learnt,
-  known-reads.Asked,
-  known-reads.Learnt,
-  wide-reads.Asked,
-  wide-reads.Learnt,
-  choose-reads.Asked,
-  choose-reads.Learnt,
-  gather-below t,
-  gather.Post,
-  remember-reads.Asked,
-  remember-reads.Learnt,
-) (gather-at t) gather.Post gather-Inv-loop gather-μ-loop
-gather-same-length-6 t c = ?
+  same-length-6 : gather-lts.Need-same-length-6 (enter-reads.Asked, enter-reads.Learnt, known-reads.Asked, known-reads.Learnt, wide-reads.Asked, wide-reads.Learnt, choose-reads.Asked, choose-reads.Learnt, gather-below t, gather.Post, remember-reads.Asked, remember-reads.Learnt) (gather-at t) gather.Post gather-Inv-loop gather-μ-loop
+  same-length-6 c =
+      let e = one-less (c .before .before .before .before .before .before .before .before .before .before .before .before .before .before .before .before .before .before .before .before .before .before .before .before .before .before .before .before .args .j) (c .before .before .before .before .before .before .before .before .before .before .before .before .before .before .before .before .before .before .before .before .before .before .before .if1 .left) in
+      let q = rw e at (c .before .before .before .before .before .before .before .before .before .before .before .before .before .before .before .before .before .before .before .before .before .before .before .before .before .before .before .before .pre .1) in
+      c .before .before .before .before .before .before .before .before .gather .kept .1 .1 .1 .1 .1 .1 .0 ∙ loop-long-c _ _ _ _ q (c .before .before .before .before .before .before .before .before .before .before .before .before .before .before .before .before .before .loop .inv .0)
 
--- src/gather.rt:106:17
-gather-returns-3 : (t : ℕ) → gather-lts.Need-returns-3 (
-  enter-reads.Asked,
-  enter-reads.Learnt,
-  known-reads.Asked,
-  known-reads.Learnt,
-  wide-reads.Asked,
-  wide-reads.Learnt,
-  choose-reads.Asked,
-  choose-reads.Learnt,
-  gather-below t,
-  gather.Post,
-  remember-reads.Asked,
-  remember-reads.Learnt,
-) (gather-at t) gather.Post gather-Inv-loop gather-μ-loop
-gather-returns-3 t c = ?
+  returns-3 : gather-lts.Need-returns-3 (enter-reads.Asked, enter-reads.Learnt, known-reads.Asked, known-reads.Learnt, wide-reads.Asked, wide-reads.Learnt, choose-reads.Asked, choose-reads.Learnt, gather-below t, gather.Post, remember-reads.Asked, remember-reads.Learnt) (gather-at t) gather.Post gather-Inv-loop gather-μ-loop
+  returns-3 c =
+      let e = one-less (c .before .before .before .before .before .before .before .before .before .before .before .before .before .before .before .before .before .before .before .before .before .before .before .before .before .before .before .before .args .j) (c .before .before .before .before .before .before .before .before .before .before .before .before .before .before .before .before .before .before .before .before .before .before .before .if1 .left) in
+      let q = rw e at (c .before .before .before .before .before .before .before .before .before .before .before .before .before .before .before .before .before .before .before .before .before .before .before .before .before .before .before .before .pre .1) in
+      rw e (loop-full _ _ _ _ q (c .before .before .before .before .before .before .before .before .before .before .before .before .before .before .before .before .before .loop .inv .0) (c .before .before .before .before .before .before .before .before .before .before .before .before .before .choose .ensures) (omega arith) (c .before .before .before .before .before .before .before .before .gather .ensures) (c .enum-told3 .given .1))
 
--- src/gather.rt:109:9
-gather-add-i : (t : ℕ) → gather-lts.Need-add-i (
-  enter-reads.Asked,
-  enter-reads.Learnt,
-  known-reads.Asked,
-  known-reads.Learnt,
-  wide-reads.Asked,
-  wide-reads.Learnt,
-  choose-reads.Asked,
-  choose-reads.Learnt,
-  gather-below t,
-  gather.Post,
-  remember-reads.Asked,
-  remember-reads.Learnt,
-) (gather-at t) gather.Post gather-Inv-loop gather-μ-loop
-gather-add-i t c = ?
+  add-i : gather-lts.Need-add-i (enter-reads.Asked, enter-reads.Learnt, known-reads.Asked, known-reads.Learnt, wide-reads.Asked, wide-reads.Learnt, choose-reads.Asked, choose-reads.Learnt, gather-below t, gather.Post, remember-reads.Asked, remember-reads.Learnt) (gather-at t) gather.Post gather-Inv-loop gather-μ-loop
+  add-i c = omega arith
 
--- src/gather.rt:98:5
-gather-loop-less : (t : ℕ) → gather-lts.Need-loop-less (
-  enter-reads.Asked,
-  enter-reads.Learnt,
-  known-reads.Asked,
-  known-reads.Learnt,
-  wide-reads.Asked,
-  wide-reads.Learnt,
-  choose-reads.Asked,
-  choose-reads.Learnt,
-  gather-below t,
-  gather.Post,
-  remember-reads.Asked,
-  remember-reads.Learnt,
-) (gather-at t) gather.Post gather-Inv-loop gather-μ-loop
-gather-loop-less t c = ?
+  loop-less : gather-lts.Need-loop-less (enter-reads.Asked, enter-reads.Learnt, known-reads.Asked, known-reads.Learnt, wide-reads.Asked, wide-reads.Learnt, choose-reads.Asked, choose-reads.Learnt, gather-below t, gather.Post, remember-reads.Asked, remember-reads.Learnt) (gather-at t) gather.Post gather-Inv-loop gather-μ-loop
+  loop-less c = omega arith
 
--- src/gather.rt:98:5
-gather-loop-again : (t : ℕ) → gather-lts.Need-loop-again (
-  enter-reads.Asked,
-  enter-reads.Learnt,
-  known-reads.Asked,
-  known-reads.Learnt,
-  wide-reads.Asked,
-  wide-reads.Learnt,
-  choose-reads.Asked,
-  choose-reads.Learnt,
-  gather-below t,
-  gather.Post,
-  remember-reads.Asked,
-  remember-reads.Learnt,
-) (gather-at t) gather.Post gather-Inv-loop gather-μ-loop
-gather-loop-again t c = ?
+  loop-again : gather-lts.Need-loop-again (enter-reads.Asked, enter-reads.Learnt, known-reads.Asked, known-reads.Learnt, wide-reads.Asked, wide-reads.Learnt, choose-reads.Asked, choose-reads.Learnt, gather-below t, gather.Post, remember-reads.Asked, remember-reads.Learnt) (gather-at t) gather.Post gather-Inv-loop gather-μ-loop
+  loop-again c =
+      let e = one-less (c .before .before .before .before .before .before .before .before .before .before .before .before .before .before .before .before .before .before .before .before .before .before .before .before .before .before .before .args .j) (c .before .before .before .before .before .before .before .before .before .before .before .before .before .before .before .before .before .before .before .before .before .before .if1 .left) in
+      let q = rw e at (c .before .before .before .before .before .before .before .before .before .before .before .before .before .before .before .before .before .before .before .before .before .before .before .before .before .before .before .pre .1) in
+      let h = c .before .before .before .before .before .before .before .before .before .before .before .before .before .before .before .before .loop .inv .0 in
+      let w = c .before .before .before .before .before .before .before .before .before .before .before .before .choose .ensures in
+      let r = c .before .before .before .before .before .before .before .gather .ensures in
+      let b : c .before .before .before .before .before .before .before .before .before .before .before .before .before .before .before .before .loop .i < size-of (c .before .before .before .before .before .before .before .before .before .before .before .before .before .before .before .before .before .before .before .before .before .before .before .before .before .before .before .args .t1) (c .before .before .before .before .before .before .before .before .before .before .before .before .before .before .before .before .before .before .before .before .before .before .before .before .before .before .before .args .j - 1) = omega arith in
+      (
+        ⊎-elim (λ m. rw (m .2) (loop-still _ _ _ _ q h w b r (m .1 .given .1))) (λ m. rw (m .2) (loop-added _ _ _ _ q h w b r (m .1 .given .1))) (c .match .came),
+        loop-state _ _ _ _ q h w,
+      )
 
--- src/gather.rt:111:5
-gather-remember-requires : (t : ℕ) → gather-lts.Need-remember-requires (
-  enter-reads.Asked,
-  enter-reads.Learnt,
-  known-reads.Asked,
-  known-reads.Learnt,
-  wide-reads.Asked,
-  wide-reads.Learnt,
-  choose-reads.Asked,
-  choose-reads.Learnt,
-  gather-below t,
-  gather.Post,
-  remember-reads.Asked,
-  remember-reads.Learnt,
-) (gather-at t) gather.Post gather-Inv-loop gather-μ-loop
-gather-remember-requires t c κs = ?
+  remember-requires : gather-lts.Need-remember-requires (enter-reads.Asked, enter-reads.Learnt, known-reads.Asked, known-reads.Learnt, wide-reads.Asked, wide-reads.Learnt, choose-reads.Asked, choose-reads.Learnt, gather-below t, gather.Post, remember-reads.Asked, remember-reads.Learnt) (gather-at t) gather.Post gather-Inv-loop gather-μ-loop
+  remember-requires c κs =
+      let p = c .before .before .before .before .before .before .before .before .before .before .before .before .before .pre .1 in
+      (omega (arith, p .ready .few), c .before .before .loop .inv .0 .seen .long, p .standing .state .long)
 
--- src/gather.rt:76:1
-gather-same-length-7 : (t : ℕ) → gather-lts.Need-same-length-7 (
-  enter-reads.Asked,
-  enter-reads.Learnt,
-  known-reads.Asked,
-  known-reads.Learnt,
-  wide-reads.Asked,
-  wide-reads.Learnt,
-  choose-reads.Asked,
-  choose-reads.Learnt,
-  gather-below t,
-  gather.Post,
-  remember-reads.Asked,
-  remember-reads.Learnt,
-) (gather-at t) gather.Post gather-Inv-loop gather-μ-loop
-gather-same-length-7 t c = ?
+  same-length-7 : gather-lts.Need-same-length-7 (enter-reads.Asked, enter-reads.Learnt, known-reads.Asked, known-reads.Learnt, wide-reads.Asked, wide-reads.Learnt, choose-reads.Asked, choose-reads.Learnt, gather-below t, gather.Post, remember-reads.Asked, remember-reads.Learnt) (gather-at t) gather.Post gather-Inv-loop gather-μ-loop
+  same-length-7 c =
+      let e = one-less (c .before .before .before .before .before .before .before .before .before .before .before .before .before .before .before .before .before .args .j) (c .before .before .before .before .before .before .before .before .before .before .before .before .if1 .left) in
+      let q = rw e at (c .before .before .before .before .before .before .before .before .before .before .before .before .before .before .before .before .before .pre .1) in
+      c .before .before .before .remember .kept .0 ∙ loop-long-seen _ _ _ _ q (c .before .before .before .before .before .before .loop .inv .0)
 
--- src/gather.rt:76:1
-gather-same-length-8 : (t : ℕ) → gather-lts.Need-same-length-8 (
-  enter-reads.Asked,
-  enter-reads.Learnt,
-  known-reads.Asked,
-  known-reads.Learnt,
-  wide-reads.Asked,
-  wide-reads.Learnt,
-  choose-reads.Asked,
-  choose-reads.Learnt,
-  gather-below t,
-  gather.Post,
-  remember-reads.Asked,
-  remember-reads.Learnt,
-) (gather-at t) gather.Post gather-Inv-loop gather-μ-loop
-gather-same-length-8 t c = ?
+  same-length-8 : gather-lts.Need-same-length-8 (enter-reads.Asked, enter-reads.Learnt, known-reads.Asked, known-reads.Learnt, wide-reads.Asked, wide-reads.Learnt, choose-reads.Asked, choose-reads.Learnt, gather-below t, gather.Post, remember-reads.Asked, remember-reads.Learnt) (gather-at t) gather.Post gather-Inv-loop gather-μ-loop
+  same-length-8 c =
+      let e = one-less (c .before .before .before .before .before .before .before .before .before .before .before .before .before .before .before .before .before .args .j) (c .before .before .before .before .before .before .before .before .before .before .before .before .if1 .left) in
+      let q = rw e at (c .before .before .before .before .before .before .before .before .before .before .before .before .before .before .before .before .before .pre .1) in
+      loop-long _ _ _ _ q (c .before .before .before .before .before .before .loop .inv .0)
 
--- src/gather.rt:76:1
-gather-same-length-9 : (t : ℕ) → gather-lts.Need-same-length-9 (
-  enter-reads.Asked,
-  enter-reads.Learnt,
-  known-reads.Asked,
-  known-reads.Learnt,
-  wide-reads.Asked,
-  wide-reads.Learnt,
-  choose-reads.Asked,
-  choose-reads.Learnt,
-  gather-below t,
-  gather.Post,
-  remember-reads.Asked,
-  remember-reads.Learnt,
-) (gather-at t) gather.Post gather-Inv-loop gather-μ-loop
-gather-same-length-9 t c = ?
+  same-length-9 : gather-lts.Need-same-length-9 (enter-reads.Asked, enter-reads.Learnt, known-reads.Asked, known-reads.Learnt, wide-reads.Asked, wide-reads.Learnt, choose-reads.Asked, choose-reads.Learnt, gather-below t, gather.Post, remember-reads.Asked, remember-reads.Learnt) (gather-at t) gather.Post gather-Inv-loop gather-μ-loop
+  same-length-9 c =
+      let e = one-less (c .before .before .before .before .before .before .before .before .before .before .before .before .before .before .before .before .before .args .j) (c .before .before .before .before .before .before .before .before .before .before .before .before .if1 .left) in
+      let q = rw e at (c .before .before .before .before .before .before .before .before .before .before .before .before .before .before .before .before .before .pre .1) in
+      loop-long-c _ _ _ _ q (c .before .before .before .before .before .before .loop .inv .0)
 
--- src/gather.rt:76:1
-gather-returns-4 : (t : ℕ) → gather-lts.Need-returns-4 (
-  enter-reads.Asked,
-  enter-reads.Learnt,
-  known-reads.Asked,
-  known-reads.Learnt,
-  wide-reads.Asked,
-  wide-reads.Learnt,
-  choose-reads.Asked,
-  choose-reads.Learnt,
-  gather-below t,
-  gather.Post,
-  remember-reads.Asked,
-  remember-reads.Learnt,
-) (gather-at t) gather.Post gather-Inv-loop gather-μ-loop
-gather-returns-4 t c = ?
+  returns-4 : gather-lts.Need-returns-4 (enter-reads.Asked, enter-reads.Learnt, known-reads.Asked, known-reads.Learnt, wide-reads.Asked, wide-reads.Learnt, choose-reads.Asked, choose-reads.Learnt, gather-below t, gather.Post, remember-reads.Asked, remember-reads.Learnt) (gather-at t) gather.Post gather-Inv-loop gather-μ-loop
+  returns-4 c =
+      let e = one-less (c .before .before .before .before .before .before .before .before .before .before .before .before .before .before .before .before .before .args .j) (c .before .before .before .before .before .before .before .before .before .before .before .before .if1 .left) in
+      let q = rw e at (c .before .before .before .before .before .before .before .before .before .before .before .before .before .before .before .before .before .pre .1) in
+      let b : size-of (c .before .before .before .before .before .before .before .before .before .before .before .before .before .before .before .before .before .args .t1) (c .before .before .before .before .before .before .before .before .before .before .before .before .before .before .before .before .before .args .j - 1) ≤ c .before .before .before .before .before .before .loop .i = omega arith in
+      rw e (loop-end-added _ _ _ _ q (c .before .before .before .before .before .before .loop .inv .0) b (c .if3 .taken) (rw e at (c .before .before .before .remember .ensures)))
 
--- src/gather.rt:76:1
-gather-same-length-10 : (t : ℕ) → gather-lts.Need-same-length-10 (
-  enter-reads.Asked,
-  enter-reads.Learnt,
-  known-reads.Asked,
-  known-reads.Learnt,
-  wide-reads.Asked,
-  wide-reads.Learnt,
-  choose-reads.Asked,
-  choose-reads.Learnt,
-  gather-below t,
-  gather.Post,
-  remember-reads.Asked,
-  remember-reads.Learnt,
-) (gather-at t) gather.Post gather-Inv-loop gather-μ-loop
-gather-same-length-10 t c = ?
+  same-length-10 : gather-lts.Need-same-length-10 (enter-reads.Asked, enter-reads.Learnt, known-reads.Asked, known-reads.Learnt, wide-reads.Asked, wide-reads.Learnt, choose-reads.Asked, choose-reads.Learnt, gather-below t, gather.Post, remember-reads.Asked, remember-reads.Learnt) (gather-at t) gather.Post gather-Inv-loop gather-μ-loop
+  same-length-10 c =
+      let e = one-less (c .before .before .before .before .before .before .before .before .before .before .before .before .before .before .before .before .before .args .j) (c .before .before .before .before .before .before .before .before .before .before .before .before .if1 .left) in
+      let q = rw e at (c .before .before .before .before .before .before .before .before .before .before .before .before .before .before .before .before .before .pre .1) in
+      c .before .before .before .remember .kept .0 ∙ loop-long-seen _ _ _ _ q (c .before .before .before .before .before .before .loop .inv .0)
 
--- src/gather.rt:76:1
-gather-same-length-11 : (t : ℕ) → gather-lts.Need-same-length-11 (
-  enter-reads.Asked,
-  enter-reads.Learnt,
-  known-reads.Asked,
-  known-reads.Learnt,
-  wide-reads.Asked,
-  wide-reads.Learnt,
-  choose-reads.Asked,
-  choose-reads.Learnt,
-  gather-below t,
-  gather.Post,
-  remember-reads.Asked,
-  remember-reads.Learnt,
-) (gather-at t) gather.Post gather-Inv-loop gather-μ-loop
-gather-same-length-11 t c = ?
+  same-length-11 : gather-lts.Need-same-length-11 (enter-reads.Asked, enter-reads.Learnt, known-reads.Asked, known-reads.Learnt, wide-reads.Asked, wide-reads.Learnt, choose-reads.Asked, choose-reads.Learnt, gather-below t, gather.Post, remember-reads.Asked, remember-reads.Learnt) (gather-at t) gather.Post gather-Inv-loop gather-μ-loop
+  same-length-11 c =
+      let e = one-less (c .before .before .before .before .before .before .before .before .before .before .before .before .before .before .before .before .before .args .j) (c .before .before .before .before .before .before .before .before .before .before .before .before .if1 .left) in
+      let q = rw e at (c .before .before .before .before .before .before .before .before .before .before .before .before .before .before .before .before .before .pre .1) in
+      loop-long _ _ _ _ q (c .before .before .before .before .before .before .loop .inv .0)
 
--- src/gather.rt:76:1
-gather-same-length-12 : (t : ℕ) → gather-lts.Need-same-length-12 (
-  enter-reads.Asked,
-  enter-reads.Learnt,
-  known-reads.Asked,
-  known-reads.Learnt,
-  wide-reads.Asked,
-  wide-reads.Learnt,
-  choose-reads.Asked,
-  choose-reads.Learnt,
-  gather-below t,
-  gather.Post,
-  remember-reads.Asked,
-  remember-reads.Learnt,
-) (gather-at t) gather.Post gather-Inv-loop gather-μ-loop
-gather-same-length-12 t c = ?
+  same-length-12 : gather-lts.Need-same-length-12 (enter-reads.Asked, enter-reads.Learnt, known-reads.Asked, known-reads.Learnt, wide-reads.Asked, wide-reads.Learnt, choose-reads.Asked, choose-reads.Learnt, gather-below t, gather.Post, remember-reads.Asked, remember-reads.Learnt) (gather-at t) gather.Post gather-Inv-loop gather-μ-loop
+  same-length-12 c =
+      let e = one-less (c .before .before .before .before .before .before .before .before .before .before .before .before .before .before .before .before .before .args .j) (c .before .before .before .before .before .before .before .before .before .before .before .before .if1 .left) in
+      let q = rw e at (c .before .before .before .before .before .before .before .before .before .before .before .before .before .before .before .before .before .pre .1) in
+      loop-long-c _ _ _ _ q (c .before .before .before .before .before .before .loop .inv .0)
 
--- src/gather.rt:76:1
-gather-returns-5 : (t : ℕ) → gather-lts.Need-returns-5 (
-  enter-reads.Asked,
-  enter-reads.Learnt,
-  known-reads.Asked,
-  known-reads.Learnt,
-  wide-reads.Asked,
-  wide-reads.Learnt,
-  choose-reads.Asked,
-  choose-reads.Learnt,
-  gather-below t,
-  gather.Post,
-  remember-reads.Asked,
-  remember-reads.Learnt,
-) (gather-at t) gather.Post gather-Inv-loop gather-μ-loop
-gather-returns-5 t c = ?
+  returns-5 : gather-lts.Need-returns-5 (enter-reads.Asked, enter-reads.Learnt, known-reads.Asked, known-reads.Learnt, wide-reads.Asked, wide-reads.Learnt, choose-reads.Asked, choose-reads.Learnt, gather-below t, gather.Post, remember-reads.Asked, remember-reads.Learnt) (gather-at t) gather.Post gather-Inv-loop gather-μ-loop
+  returns-5 c =
+      let e = one-less (c .before .before .before .before .before .before .before .before .before .before .before .before .before .before .before .before .before .args .j) (c .before .before .before .before .before .before .before .before .before .before .before .before .if1 .left) in
+      let q = rw e at (c .before .before .before .before .before .before .before .before .before .before .before .before .before .before .before .before .before .pre .1) in
+      let b : size-of (c .before .before .before .before .before .before .before .before .before .before .before .before .before .before .before .before .before .args .t1) (c .before .before .before .before .before .before .before .before .before .before .before .before .before .before .before .before .before .args .j - 1) ≤ c .before .before .before .before .before .before .loop .i = omega arith in
+      rw e (loop-end-still _ _ _ _ q (c .before .before .before .before .before .before .loop .inv .0) b (c .if3 .left) (rw e at (c .before .before .before .remember .ensures)))
 
 pub +gather-spec : {M : Type 1} → statement M
-+gather-spec = close μ-gather λ t. gather-lts.spec (
-  enter-reads.Asked,
-  enter-reads.Learnt,
-  known-reads.Asked,
-  known-reads.Learnt,
-  wide-reads.Asked,
-  wide-reads.Learnt,
-  choose-reads.Asked,
-  choose-reads.Learnt,
-  gather-below t,
-  gather.Post,
-  remember-reads.Asked,
-  remember-reads.Learnt,
-)
-    (gather-at t)
-    gather.Post
-    gather-Inv-loop
-    gather-μ-loop
-    (gather-enter-requires t)
-    (gather-same-length t)
-    (gather-same-length-2 t)
-    (gather-returns t)
-    (gather-known-requires t)
-    (gather-same-length-3 t)
-    (gather-returns-2 t)
-    (gather-sub-wide t)
-    (gather-element-copy-out-wide t)
-    (gather-wide-requires t)
-    (gather-loop-holds t)
-    (gather-sub-choose t)
-    (gather-sub-choose-2 t)
-    (gather-mul-choose t)
-    (gather-add-choose t)
-    (gather-mul-choose-2 t)
-    (gather-shared-slice-read-choose t)
-    (gather-choose-requires t)
-    (gather-sub-gather t)
-    (gather-gather-requires t)
-    (gather-enum-told t)
-    (gather-enum-told-2 t)
-    (gather-enum-told-3 t)
-    (gather-same-length-4 t)
-    (gather-same-length-5 t)
-    (gather-same-length-6 t)
-    (gather-returns-3 t)
-    (gather-add-i t)
-    (gather-loop-less t)
-    (gather-loop-again t)
-    (gather-remember-requires t)
-    (gather-same-length-7 t)
-    (gather-same-length-8 t)
-    (gather-same-length-9 t)
-    (gather-returns-4 t)
-    (gather-same-length-10 t)
-    (gather-same-length-11 t)
-    (gather-same-length-12 t)
-    (gather-returns-5 t)
++gather-spec = close μ-gather (λ t. gather-lts.spec (enter-reads.Asked, enter-reads.Learnt, known-reads.Asked, known-reads.Learnt, wide-reads.Asked, wide-reads.Learnt, choose-reads.Asked, choose-reads.Learnt, gather-below t, gather.Post, remember-reads.Asked, remember-reads.Learnt) (gather-at t) gather.Post gather-Inv-loop gather-μ-loop (enter-requires t) (same-length t) (same-length-2 t) (returns t) (known-requires t) (same-length-3 t) (returns-2 t) (sub-wide t) (element-copy-out-wide t) (wide-requires t) (loop-holds t) (sub-choose t) (sub-choose-2 t) (mul-choose t) (add-choose t) (mul-choose-2 t) (shared-slice-read-choose t) (choose-requires t) (sub-gather t) (gather-requires t) (enum-told t) (enum-told-2 t) (enum-told-3 t) (same-length-4 t) (same-length-5 t) (same-length-6 t) (returns-3 t) (add-i t) (loop-less t) (loop-again t) (remember-requires t) (same-length-7 t) (same-length-8 t) (same-length-9 t) (returns-4 t) (same-length-10 t) (same-length-11 t) (same-length-12 t) (returns-5 t))

@@ -1,40 +1,51 @@
+-- A turn of a visit, on one state. Assumes nothing.
 use borrow.Author.Needs.{needs}
+use mathlib.Core.Path.{ap, _∙_}
+use native.Mathlib.Omega.{arith}
+use lib.ListN.{length}
+use Rattle.tables.specs.State.{State}
+use Rattle.tables.proofs.Choosing.{copied-over, step-tied, step-released, step-chosen, tied-state, released-state}
 use Rattle.tables.proofs.gather.choose.Statement.{statement}
 use Rattle.tables.proofs.gather.choose.Tie as tie
-use Rattle.tables.proofs.gather.choose.Reads as reads
-use Rattle.tables.proofs.gather.choose.Lts as lts
-use Rattle.tables.proofs.gather.release.Reads as release-reads
-use Rattle.tables.proofs.labels.copy_state.Reads as copy-state-reads
-use Rattle.tables.proofs.labels.tidy.Reads as tidy-reads
-use Rattle.tables.proofs.labels.tie.Reads as tie-reads
 
--- src/gather.rt:59:16
 element-copy-out-slot : tie.Need-element-copy-out-slot
 element-copy-out-slot c = search needs
 
--- src/gather.rt:60:5
 copy-state-requires : tie.Need-copy-state-requires
 copy-state-requires c κs = search needs
 
--- src/gather.rt:61:18
 element-copy-out-tie : tie.Need-element-copy-out-tie
 element-copy-out-tie c = search needs
 
--- src/gather.rt:61:5
 tie-requires : tie.Need-tie-requires
-tie-requires c κs = ?
+tie-requires c κs =
+    let o = c .before .before .before .before .before in
+    let p = o .pre in
+    (ap length (copied-over (o .args .s .now) (o .args .t .now) (p .2 .state .long) (p .3) (c .before .before .copy-state .ensures)) ∙ p .2 .state .long,
+      p .0 .slots (o .args .j) (omega arith), p .0 .widths (o .args .j) (omega arith))
 
--- src/gather.rt:62:5
 release-requires : tie.Need-release-requires
-release-requires c κs = ?
+release-requires c κs =
+    let o = c .before .before .before .before .before .before .before in
+    let p = o .pre in
+    let e = copied-over (o .args .s .now) (o .args .t .now) (p .2 .state .long) (p .3) (c .before .before .before .before .copy-state .ensures) in
+    (ap length (step-tied (p .0) (p .2) (o .args .code) e (c .before .tie .ensures)) ∙ tied-state (p .0) (p .2) (o .args .code) .long, p .0 .slots (o .args .j) (omega arith))
 
--- src/gather.rt:63:5
 tidy-requires : tie.Need-tidy-requires
-tidy-requires c κs = ?
+tidy-requires c κs =
+    let o = c .before .before .before .before .before .before .before .before .before in
+    let p = o .pre in
+    let e = copied-over (o .args .s .now) (o .args .t .now) (p .2 .state .long) (p .3) (c .before .before .before .before .before .before .copy-state .ensures) in
+    let f = step-tied (p .0) (p .2) (o .args .code) e (c .before .before .before .tie .ensures) in
+    rw (step-released (p .0) (p .2) (o .args .code) f (c .before .release .ensures)) (released-state (p .0) (p .2) (o .args .code))
 
--- src/gather.rt:55:1
 returns : tie.Need-returns
-returns c = ?
+returns c =
+    let o = c .before .before .before .before .before .before .before .before .before .before in
+    let p = o .pre in
+    let e = copied-over (o .args .s .now) (o .args .t .now) (p .2 .state .long) (p .3) (c .before .before .before .before .before .before .before .copy-state .ensures) in
+    let f = step-tied (p .0) (p .2) (o .args .code) e (c .before .before .before .before .tie .ensures) in
+    step-chosen (p .0) (p .2) (o .args .code) (step-released (p .0) (p .2) (o .args .code) f (c .before .before .release .ensures)) (c .tidy .ensures)
 
 pub choose-spec : {M : Type 1} → statement M
 choose-spec =
