@@ -1,6 +1,6 @@
 -- What a code relates, against what it says: the same, also of settings that there are not, which are alike to themselves only.
 use mathlib.Core.Path.{_≡_, ap, Σ-path}
-use mathlib.Core.Logic.{_⊎_, inl, inr, _↔_}
+use mathlib.Core.Logic.{_⊎_, inl, inr, _↔_, Iff·symm}
 use mathlib.Core.List.{List, [], _∷_}
 use Prim.Native.Nat.{ℕ, zero, suc, _<_}
 use native.Mathlib.Omega.{arith}
@@ -18,6 +18,9 @@ Kept A R = (a b : ℕ) → R a b → (a ≡ b) ⊎ ((a < A) × (b < A))
 -- a code that says a relation says any other that holds at the same places
 pub says-iff : (A c : ℕ) (R S : ℕ → ℕ → Type 0) → ((a b : ℕ) → R a b ↔ S a b) → Says A c R → Says A c S
 says-iff A c R S h s = says-map s (λ a b la lb. h a b)
+
+pub says-same : (A A′ c : ℕ) (R S : ℕ → ℕ → Type 0) → A ≡ A′ → ((a b : ℕ) → R a b ↔ S a b) → Says A c R ↔ Says A′ c S
+says-same A A′ c R S e h = rw e (says-iff A′ c R S h, says-iff A′ c S R (λ a b. Iff·symm (h a b)))
 
 pub alike-iff : (G : Grammar) (k c : ℕ) (R : ℕ → ℕ → Type 0) → Says (G .settings k) c R → ((a : ℕ) → R a a) → Kept (G .settings k) R
     → (a b : ℕ) → Alike G k c a b ↔ R a b

@@ -1,5 +1,4 @@
 -- A forest in its surroundings. The whole tree's edges W stay fixed, and what is outside, O, grows from the root towards the node.
-use mathlib.Core.Path.{_≡_, refl}
 use mathlib.Core.Logic.{_⊎_, inl, inr}
 use Prim.Native.Nat.{ℕ, zero, suc, _+_}
 use native.Mathlib.Omega.{arith}

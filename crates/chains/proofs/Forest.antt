@@ -5,7 +5,7 @@ use Prim.Native.Nat.{ℕ, zero, suc, _+_}
 use native.Mathlib.Omega.{arith}
 use Rattle.chains.specs.Grammar.{Grammar}
 use Rattle.chains.specs.Tree.{Bush, nil, grow, size, Root, Inst}
-use Rattle.chains.specs.Chain.{Own, Edge, Chain, Eqv, done, fwd, bwd}
+use Rattle.chains.specs.Chain.{Own, Edge, Chain, Eqv}
 use Rattle.chains.proofs.Closure.{more, stay}
 use Rattle.chains.proofs.Range.{In, Within, root-in, own-in, edge-in}
 

@@ -28,3 +28,9 @@ pub mod Occurrences
 pub mod Walk
 pub mod Alike
 pub mod Entries
+pub mod Moved
+pub mod Holes
+pub mod Replace
+pub mod Sheets
+pub mod OneNumbering
+pub mod Sharing

@@ -1,6 +1,6 @@
 -- One production instance: the chains between its settings, whatever stands around it, are the closure of its own ties, of what its children
 -- chain below, and of what is chained at its node from outside.
-use mathlib.Core.Path.{_≡_, refl, subst, subst₂}
+use mathlib.Core.Path.{refl, subst, subst₂}
 use mathlib.Core.Logic.{_⊎_, inl, inr, _↔_}
 use Prim.Native.Nat.{ℕ, zero, suc, _≤_}
 use native.Mathlib.Omega.{arith}
@@ -163,7 +163,8 @@ module _ (G : Grammar) (p : ℕ) (σ τ : ℕ → ℕ → ℕ → Type 0) where
   join-mono f c = join-bind (λ s a b h. fwd done (inr (refl, f s a b h))) c
 
 -- a closure is that of any slots' relations that hold at the same places
-pub closure-iff : (G : Grammar) (p : ℕ) (ρ ρ′ : ℕ → ℕ → Type 0) (σ σ′ : ℕ → ℕ → ℕ → Type 0) → ((a b : ℕ) → ρ a b ↔ ρ′ a b) → ((j a b : ℕ) → σ j a b ↔ σ′ j a b)
+pub closure-iff : (G : Grammar) (p : ℕ) (ρ ρ′ : ℕ → ℕ → Type 0) (σ σ′ : ℕ → ℕ → ℕ → Type 0) → ((a b : ℕ) → ρ a b ↔ ρ′ a b)
+    → ((j a b : ℕ) → σ j a b ↔ σ′ j a b)
     → (o o′ : Occ) → Closure G p (Slotwise ρ σ) o o′ ↔ Closure G p (Slotwise ρ′ σ′) o o′
 closure-iff G p ρ ρ′ σ σ′ hρ hσ o o′ = (join-mono G p (Slotwise ρ σ) (Slotwise ρ′ σ′) to, join-mono G p (Slotwise ρ′ σ′) (Slotwise ρ σ) from)
   where

@@ -9,9 +9,9 @@ use lib.ListN.{length, getD, length-append, List·getD-append}
 use lib.Seq.{getD-append-add}
 use Rattle.chains.specs.Grammar.{Occ, Grammar, Lawful}
 use Rattle.chains.specs.Tree.{Bush, nil, grow, size, count, flat, Kinded, Root, Slot, Inst, At, Sub, roots, Fitted}
-use Rattle.chains.specs.Chain.{Edge, Eqv, Chain}
+use Rattle.chains.specs.Chain.{Edge, Chain}
 use Rattle.chains.proofs.Closure.{real-ends}
-use Rattle.chains.proofs.Range.{In, root-in}
+use Rattle.chains.proofs.Range.{In}
 use Rattle.chains.proofs.WellKinded.{root-kind}
 
 pub flat-length : (f : Bush) → length (flat f) ≡ size f
@@ -77,19 +77,26 @@ sub-child (grow p′ cs′ rest) n i q ds m p cs (inl (ei, ep, ec)) t = inr (inl
 sub-child (grow p′ cs′ rest) n i q ds m p cs (inr (inl s)) t = inr (inl (sub-child cs′ (suc n) i q ds m p cs s t))
 sub-child (grow p′ cs′ rest) n i q ds m p cs (inr (inr s)) t = inr (inr (sub-child rest (suc (n + size cs′)) i q ds m p cs s t))
 
+pub sub-within : (f : Bush) (n i q : ℕ) (ds : Bush) (m p : ℕ) (cs : Bush) → Sub f n i q ds → Sub (grow q ds nil) i m p cs → Sub f n m p cs
+sub-within f n i q ds m p cs s (inl (em, ep, ec)) = rw (em, ← ep, ← ec) s
+sub-within f n i q ds m p cs s (inr (inl t)) = sub-child f n i q ds m p cs s t
+sub-within f n i q ds m p cs s (inr (inr t)) = absurd t
+
 -- a node is a root, or a child of another node
 pub parent : (f : Bush) (n m q : ℕ) (ds : Bush) → Sub f n m q ds
     → ((j : ℕ) × Root f n j m) ⊎ ((i : ℕ) × (p : ℕ) × (cs : Bush) × (j : ℕ) × Sub f n i p cs × Root cs (suc i) j m)
 parent nil n m q ds s = absurd s
 parent (grow p cs rest) n m q ds (inl s) = inl (0, s .0)
 parent (grow p cs rest) n m q ds (inr (inl s)) =
-    elim (parent cs (suc n) m q ds s)
-    [ inl r ↦ inr (n, p, cs, r .0, inl (refl, refl, refl), r .1)
-    | inr r ↦ inr (r .0, r .1, r .2, r .3, inr (inl (r .4)), r .5) ]
+    elim (parent cs (suc n) m q ds s) [
+      | inl r ↦ inr (n, p, cs, r .0, inl (refl, refl, refl), r .1)
+      | inr r ↦ inr (r .0, r .1, r .2, r .3, inr (inl (r .4)), r .5)
+    ]
 parent (grow p cs rest) n m q ds (inr (inr s)) =
-    elim (parent rest (suc (n + size cs)) m q ds s)
-    [ inl r ↦ inl (suc (r .0), r .1)
-    | inr r ↦ inr (r .0, r .1, r .2, r .3, inr (inr (r .4)), r .5) ]
+    elim (parent rest (suc (n + size cs)) m q ds s) [
+      | inl r ↦ inl (suc (r .0), r .1)
+      | inr r ↦ inr (r .0, r .1, r .2, r .3, inr (inr (r .4)), r .5)
+    ]
 
 -- ── the list of roots ──
 pub roots-length : (f : Bush) (n : ℕ) → length (roots f n) ≡ count f
@@ -107,10 +114,11 @@ slots-at i ds (suc j) m d r = roots-at ds (suc i) j m d r
 
 -- ── the ends of every dependence are settings that their nodes have ──
 module _ (G : Grammar) (L : Lawful G) where
-  fitted-more : (f g : Bush) (n n′ : ℕ) → ((i q : ℕ) (ds : Bush) → Sub f n i q ds → Sub g n′ i q ds) → (x : Inst) → Fitted G f n x → Fitted G g n′ x
+  pub fitted-more : (f g : Bush) (n n′ : ℕ) → ((i q : ℕ) (ds : Bush) → Sub f n i q ds → Sub g n′ i q ds) → (x : Inst) → Fitted G f n x
+      → Fitted G g n′ x
   fitted-more f g n n′ h x (q, ds, s, l) = (q, ds, h (x .0) q ds s, l)
 
-  at-fitted : (p n : ℕ) (cs rest : Bush) → Kinded G cs (G .kids p) → (o : Occ) (x : Inst) → At n cs o x
+  pub at-fitted : (p n : ℕ) (cs rest : Bush) → Kinded G cs (G .kids p) → (o : Occ) (x : Inst) → At n cs o x
       → o .1 < G .settings (getD (G .left p ∷ G .kids p) (o .0) 0) → Fitted G (grow p cs rest) n x
   at-fitted p n cs rest k o x (s, e) h = go (o .0) s h
     where

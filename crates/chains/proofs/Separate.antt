@@ -1,12 +1,11 @@
 -- A chain from inside a tree to outside passes a setting of the tree's root.
-use mathlib.Core.Path.{_≡_}
 use mathlib.Core.Logic.{_⊎_, inl, inr}
 use Prim.Native.Nat.{ℕ, suc}
 use native.Mathlib.Omega.{arith}
 use native.Mathlib.Decide.{decLe}
 use Rattle.chains.specs.Grammar.{Grammar}
 use Rattle.chains.specs.Tree.{Bush, grow, Inst}
-use Rattle.chains.specs.Chain.{Edge, Eqv, done, fwd, bwd}
+use Rattle.chains.specs.Chain.{Edge, Eqv, done, fwd}
 use Rattle.chains.proofs.Closure.{bind, pass, unglue}
 use Rattle.chains.proofs.Range.{Within, Top, Clear}
 use Rattle.chains.proofs.Forest.{Tree, tree-in}
@@ -33,5 +32,6 @@ module _ (G : Grammar) (W O : Inst → Inst → Type 0) (p n : ℕ) (cs rest : B
 
   pub separate : (x y : Inst) → Within n cs x → Clear n cs y → Eqv W x y → (b : Inst) × Top n b × Eqv W x b × Eqv W b y
   separate x y f c w =
-      let (b, t, g, d) = pass W (Tree G p n cs) (Beside G O p n cs rest) (Within n cs) (Clear n cs) (Top n) tree-or-beside (tree-in G p n cs) (beside-clear G W O p n cs rest A) top f c w in
+      let clear = beside-clear G W O p n cs rest A in
+      let (b, t, g, d) = pass W (Tree G p n cs) (Beside G O p n cs rest) (Within n cs) (Clear n cs) (Top n) tree-or-beside (tree-in G p n cs) clear top f c w in
       (b, t, unglue (Top n) tree-inner beside-outer g, bind beside-outer d)

@@ -1,16 +1,16 @@
 -- Gluing: what a tree's chains relate among its root's settings is worked out from the root's production and from what its children's own
 -- chains relate among theirs, and from nothing else.
-use mathlib.Core.Path.{_≡_, refl, ap}
+use mathlib.Core.Path.{refl, ap}
 use mathlib.Core.Logic.{_⊎_, inl, inr, _↔_}
 use Prim.Native.Nat.{ℕ, zero, suc, _+_, _≤_}
 use native.Mathlib.Omega.{arith}
 use Rattle.chains.specs.Grammar.{Occ, Grammar, Tied}
 use Rattle.chains.specs.Tree.{Bush, nil, grow, size, count, Root, Slot, Inst}
-use Rattle.chains.specs.Chain.{Own, Edge, Chain, Slotwise, Closure, Eqv, done, fwd, bwd}
-use Rattle.chains.proofs.Closure.{bind, more, no-edge}
+use Rattle.chains.specs.Chain.{Own, Edge, Chain, Slotwise, Closure, Eqv, done, fwd}
+use Rattle.chains.proofs.Closure.{more, no-edge}
 use Rattle.chains.proofs.Range.{root-in}
 use Rattle.chains.proofs.Forest.{Tree, in-first, in-later, from-first, from-later}
-use Rattle.chains.proofs.Local.{Below, Seen, local, whole, join-bind}
+use Rattle.chains.proofs.Local.{Seen, local, whole, join-bind}
 
 -- what the forest's j-th tree relates among its root's settings, from the bottom up: the closure of the root's ties and of what the children relate
 abbrev pub Up : Grammar → Bush → ℕ → ℕ → ℕ → Type 0

@@ -1,6 +1,6 @@
 -- What well-kinded forests have: as many roots as kinds, a slot for every tie, and a node of the right kind in every slot.
-use mathlib.Core.Path.{_≡_, refl, sym, _∙_, ap}
-use mathlib.Core.Logic.{_⊎_, inl, inr}
+use mathlib.Core.Path.{_≡_, refl, ap}
+use mathlib.Core.Logic.{inl, inr}
 use mathlib.Core.List.{List, [], _∷_}
 use Prim.Native.Nat.{ℕ, zero, suc, _+_, _≤_, _<_}
 use native.Mathlib.Omega.{arith}
@@ -47,7 +47,8 @@ module _ (G : Grammar) where
   sub-fits (grow p cs rest) n i q ds h (inr (inr s)) = sub-fits rest (suc (n + size cs)) i q ds (h .2) s
 
   -- the j-th root is a node whose production has the j-th kind on its left
-  pub root-kind : (f : Bush) (ks : List ℕ) (n j m : ℕ) → Kinded G f ks → Root f n j m → (q : ℕ) × (ds : Bush) × Sub f n m q ds × Heads G q (getD ks j 0)
+  pub root-kind : (f : Bush) (ks : List ℕ) (n j m : ℕ) → Kinded G f ks → Root f n j m
+      → (q : ℕ) × (ds : Bush) × Sub f n m q ds × Heads G q (getD ks j 0)
   root-kind nil ks n j m k r = absurd r
   root-kind (grow p cs rest) [] n j m k r = absurd k
   root-kind (grow p cs rest) (x ∷ ks) n zero m k r = (p, cs, inl (r, refl, refl), k .0)

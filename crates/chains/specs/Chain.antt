@@ -35,3 +35,11 @@ Join G p τ o o′ = Tied G p o o′ ⊎ ((o .0 ≡ o′ .0) × τ (o .0) (o .1)
 
 abbrev pub Closure : Grammar → ℕ → (ℕ → ℕ → ℕ → Type 0) → Occ → Occ → Type 0
 Closure G p τ = Eqv (Join G p τ)
+
+-- what a tree's own chains relate among its root's settings: p is the root's production, cs the children
+abbrev pub RootChains : Grammar → ℕ → Bush → ℕ → ℕ → Type 0
+RootChains G p cs a b = Chain G (grow p cs nil) 0 (0, a) (0, b)
+
+-- what the chains of the whole tree f relate among the settings of its node i
+abbrev pub NodeChains : Grammar → Bush → ℕ → ℕ → ℕ → Type 0
+NodeChains G f i a b = Chain G f 0 (i, a) (i, b)

@@ -1,9 +1,3 @@
-pub mod Members
-pub mod Cleared
-pub mod Memory
-pub mod Holds
-pub mod Entries
-pub mod Promise
 pub mod StateLoops
 pub mod StateNumbers
 pub mod StatesSeen
@@ -14,3 +8,10 @@ pub mod StateBase
 pub mod StateWalk
 pub mod Choosing
 pub mod Gathering
+pub mod StateEntry
+pub mod Members
+pub mod Cleared
+pub mod Memory
+pub mod Holds
+pub mod Entries
+pub mod Promise

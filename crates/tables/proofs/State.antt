@@ -1,9 +1,9 @@
 -- What the functions over a state mean: which occurrences are there afterwards, and which stand in one group.
-use mathlib.Core.Path.{_≡_, refl, sym, ap, _∙_, subst, subst₂}
+use mathlib.Core.Path.{_≡_, sym, ap, _∙_, subst₂}
 use mathlib.Core.Logic.{_⊎_, inl, inr, _↔_}
 use mathlib.Core.Bool.{Bool, true, false}
 use mathlib.Core.List.{List, [], _∷_}
-use Prim.Native.Nat.{ℕ, zero, suc, _+_, _*_, _/_, _%_, _≤_, _<_}
+use Prim.Native.Nat.{ℕ, _+_, _*_, _/_, _%_, _≤_, _<_}
 use native.Mathlib.Omega.{arith}
 use native.Mathlib.Decide.{ℕ-discrete}
 use lib.Dec.{eqb}
@@ -16,13 +16,13 @@ use Rattle.chains.specs.Grammar.{Named}
 use Rattle.chains.specs.Chain.{Eqv, done, fwd, bwd}
 use Rattle.chains.specs.Grouping.{label, unpack, Says}
 use Rattle.chains.specs.Labels.{joinAt, joins, joinAtF, joinsF, index}
-use Rattle.chains.specs.State.{SameLabel, Shown, dropped, code-on, code-pairs}
-use Rattle.chains.proofs.Closure.{bind, more}
+use Rattle.chains.specs.State.{SameLabel, dropped, code-on, code-pairs}
+use Rattle.chains.proofs.Closure.{bind}
 use Rattle.chains.proofs.Labels.{Ends, keeps, length-joins}
 use Rattle.chains.proofs.Says.{says-map}
 use Rattle.chains.proofs.State.{shown-joins, state-joins, state-labelled, code-says}
 use Rattle.chains.proofs.Tying.{first-there, pairs-named, pairs-have, pairs-ends}
-use Rattle.ranks.specs.Entries.{labels, none}
+use Rattle.ranks.specs.Entries.{none}
 use Rattle.tables.specs.State.{Present, Same, Low, State, spot, Whole, Joined, Grouped}
 
 -- ---- joining
@@ -49,12 +49,11 @@ module _ {s : List ℕ} (st : State s) (es : List (ℕ × ℕ)) (ends : Ends (Pr
     };
     present = state-labelled s es ends;
     same = λ o o′ p p′.
-      let t = shown-joins es (λ i. getD s i none) ends o o′ in
-      let e = state-joins s es ends in
-      (
-        λ h. t .0 (fwd done (same-to o o′ h)),
-        λ c. (state-labelled s es ends o .1 p, state-labelled s es ends o′ .1 p′, e o ∙ keeps (joinsF (λ i. getD s i none) es) (λ x y r. r .2) (t .1 c) ∙ sym (e o′)),
-      );
+        let t = shown-joins es (λ i. getD s i none) ends o o′ in
+        let e = state-joins s es ends in (
+          λ h. t .0 (fwd done (same-to o o′ h)),
+          λ c. (state-labelled s es ends o .1 p, state-labelled s es ends o′ .1 p′, e o ∙ keeps (joinsF (λ i. getD s i none) es) (λ x y r. r .2) (t .1 c) ∙ sym (e o′)),
+        );
   }
 
 -- the same where R and R′ have the same chains beside the groups of s
@@ -139,9 +138,9 @@ module _ {s : List ℕ} (st : State s) (t : ℕ) (ht : t ≤ max-kids) where
   pub forget-same : (o o′ : ℕ) → Same (dropped t s) o o′ ↔ ((o / max-settings ≡ t → ⊥) × (o′ / max-settings ≡ t → ⊥) × Same s o o′)
   forget-same o o′ = (
     λ (p, p′, e).
-      let (n, q) = forget-present o .0 p in
-      let (n′, q′) = forget-present o′ .0 p′ in
-      (n, n′, (q, q′, sym (beside o n) ∙ e ∙ beside o′ n′)),
+        let (n, q) = forget-present o .0 p in
+        let (n′, q′) = forget-present o′ .0 p′ in
+        (n, n′, (q, q′, sym (beside o n) ∙ e ∙ beside o′ n′)),
     λ (n, n′, (q, q′, e)). (forget-present o .1 (n, q), forget-present o′ .1 (n′, q′), beside o n ∙ e ∙ sym (beside o′ n′)),
   )
 

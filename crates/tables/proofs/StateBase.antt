@@ -1,50 +1,26 @@
 -- The base grouping of a production as a state: its occurrences are there, and its dependences are what stands in one group.
-use mathlib.Core.Path.{_≡_, refl, sym, ap, ap₂, _∙_, subst, subst₂}
-use mathlib.Core.Logic.{_⊎_, inl, inr, _↔_}
+use mathlib.Core.Path.{_≡_, refl, sym, ap, _∙_, subst, subst₂}
+use mathlib.Core.Logic.{inl, inr, _↔_}
 use mathlib.Core.List.{List, [], _∷_}
-use Prim.Native.Nat.{ℕ, zero, suc, _+_, _-_, _*_, _/_, _%_, _≤_, _<_}
+use Prim.Native.Nat.{ℕ, zero, suc, _+_, _*_, _/_, _%_, _≤_, _<_}
 use native.Mathlib.Omega.{arith}
 use native.Mathlib.Decide.{decLt}
-use native.Mathlib.Nat.{add-assoc}
-use borrow.Author.Tests.{ne-eqb, lt-ltb, le-ltb}
-use lib.Dec.{ltb}
+use borrow.Author.Tests.{lt-ltb, le-ltb}
 use lib.ListN.{length, getD, List·getD-eq-default}
-use Rattle.lists.specs.Pick.{pick}
-use Rattle.lists.proofs.Parts.{length-part, getD-part}
 use Rattle.chains.specs.Limits.{max-settings, max-kids}
-use Rattle.chains.specs.Grammar.{Occ, Tie, Grammar, slots, width, Exists, Named, Tied, Lawful}
+use Rattle.chains.specs.Grammar.{Occ, Tie, Grammar, slots, width, Exists, Named, Tied}
 use Rattle.chains.specs.Chain.{Eqv, done, fwd, Slotwise, Join, Closure}
-use Rattle.chains.specs.Labels.{joins}
 use Rattle.chains.specs.State.{number, numbers, Shown}
-use Rattle.chains.specs.Gather.{Result}
 use Rattle.chains.proofs.Closure.{more}
 use Rattle.chains.proofs.Labels.{Ends, keeps, length-labels, labels-at}
-use Rattle.chains.proofs.Gather.{result-map}
 use Rattle.chains.proofs.State.{getD-any, base-shown, ties-numbered}
-use Rattle.book.specs.Format.{occ, prods, entry, arity-at, pairs-at, bytes-at, kids-at, next-at, ties-of, grammar}
-use Rattle.book.specs.Reading.{settings-of, to-at, from-at}
+use Rattle.book.specs.Format.{occ, prods, entry, arity-at, grammar}
+use Rattle.book.specs.Reading.{kind-in}
+use Rattle.book.proofs.Decided.{exists-decided}
+use Rattle.book.proofs.Accepted.{Accepted, settings-read, arity-read, kind-in-read, pairs-read, inside, to-low, from-low}
 use Rattle.ranks.specs.Entries.{labels, none}
-use Rattle.tables.specs.State.{Present, Same, Low, State, kind-in, width-in, own, apart, based, Readable}
+use Rattle.tables.specs.State.{Present, Same, Low, State, width-in, own, apart, based, Readable}
 use Rattle.tables.proofs.State.{joins-means}
-use Rattle.tables.proofs.StateTidy.{exists-decided}
-
--- all that the base grouping of production p asks of the book b
-pub record Grounds (b : List ℕ) (p : ℕ) : Type 0 where
-  pub lawful : Lawful (grammar b)
-  pub below : p < prods b
-  pub settings-is : (k : ℕ) → settings-of b k ≡ grammar b .settings k
-  pub inside : next-at b (entry b p) ≤ length b
-
--- ---- ties that bytes name
-tie-named : (bs : List ℕ) (i : ℕ) → 2 * i + 1 < length bs → Named (ties-of bs) (occ (getD bs (2 * i) 0)) (occ (getD bs (2 * i + 1) 0))
-unfolding ties-of
-tie-named [] i h = absurd (omega arith)
-tie-named (x ∷ []) i h = absurd (omega arith)
-tie-named (x ∷ y ∷ bs) zero h = inl (refl, refl)
-tie-named (x ∷ y ∷ bs) (suc i) h =
-    let k : 2 * suc i ≡ suc (suc (2 * i)) = omega arith in
-    let l : 2 * suc i + 1 ≡ suc (suc (2 * i + 1)) = omega arith in
-    inr (subst₂ (λ i j. Named (ties-of bs) (occ (getD (x ∷ y ∷ bs) i 0)) (occ (getD (x ∷ y ∷ bs) j 0))) (sym k) (sym l) (tie-named bs i (omega arith)))
 
 -- what every pair's ends have
 ends-named : {X : Type 0} (P : X → Type 0) (ts : List (X × X)) → ((x y : X) → Named ts x y → P x × P y) → Ends P ts
@@ -57,38 +33,29 @@ unfolding Ends
 ends-numbered P [] h = tt
 ends-numbered P (t ∷ ts) h = (h .0, h .1, ends-numbered P ts (h .2))
 
-module _ {b : List ℕ} {p : ℕ} (g : Grounds b p) where
+module _ {b : List ℕ} (a : Accepted b) (p : ℕ) (l : p < prods b) where
   abbrev G : Grammar
   G = grammar b
 
   abbrev at : ℕ
   at = entry b p
 
-  kids-long : length (kids-at b at) ≡ arity-at b at
-  kids-long = length-part (at + 2) (arity-at b at) b (omega (arith, g .inside))
-
   few-kids : arity-at b at ≤ max-kids
-  few-kids = omega (arith, kids-long, g .lawful .few-kids p (g .below))
-
-  kind-is : (t : ℕ) → t ≤ arity-at b at → kind-in b at t ≡ getD (slots G p) t 0
-  kind-is zero h = refl
-  kind-is (suc t) h =
-      let k : suc t - 1 ≡ t = omega arith in
-      rw (ne-eqb (suc t) 0 (λ e. omega arith), k) (sym (getD-part (at + 2) (arity-at b at) b t 0 (omega arith)))
+  few-kids = omega (arith, arity-read a p l, a .lawful .few-kids p l)
 
   width-is : (t : ℕ) → t ≤ arity-at b at → width-in b at t ≡ width G p t
-  width-is t h = rw (le-ltb (arity-at b at) t h) (g .settings-is (kind-in b at t) ∙ ap (G .settings) (kind-is t h))
+  width-is t h = rw (le-ltb (arity-at b at) t h) (settings-read a (kind-in b at t) ∙ ap (G .settings) (kind-in-read a p l t (omega (arith, arity-read a p l))))
 
   no-width : (t : ℕ) → arity-at b at < t → width-in b at t ≡ 0
   no-width t h = rw (lt-ltb (arity-at b at) t h)
 
   -- the settings of a slot fit their eight places
   pub few-settings : (t : ℕ) → t < length (slots G p) → width G p t ≤ max-settings
-  few-settings zero h = g .lawful .few-settings (G .left p) (g .lawful .left-in p (g .below))
-  few-settings (suc j) h = g .lawful .few-settings (getD (G .kids p) j 0) (g .lawful .kids-in p j (g .below) (omega arith))
+  few-settings zero h = a .lawful .few-settings (G .left p) (a .lawful .left-in p l)
+  few-settings (suc j) h = a .lawful .few-settings (getD (G .kids p) j 0) (a .lawful .kids-in p j l (omega arith))
 
   exists-low : (o : Occ) → Exists G p o → (o .0 ≤ max-kids) × (o .1 < max-settings)
-  exists-low o (h, l) = (omega (arith, kids-long, few-kids), let w = few-settings (o .0) h in omega arith)
+  exists-low o (h, k) = (omega (arith, arity-read a p l, few-kids), let w = few-settings (o .0) h in omega arith)
 
   -- ---- every occurrence by itself
   apart-long : length (apart b at) ≡ labels
@@ -101,29 +68,29 @@ module _ {b : List ℕ} {p : ℕ} (g : Grounds b p) where
   -- what exists has its own number
   has-own : (o : ℕ) → Exists G p (occ o) → getD (apart b at) o none ≡ o
   has-own o e =
-      let (k, l) = exists-low (occ o) e in
-      let t : o / max-settings ≤ arity-at b at = omega (arith, kids-long, e .0) in
+      let (k, m) = exists-low (occ o) e in
+      let t : o / max-settings ≤ arity-at b at = omega (arith, arity-read a p l, e .0) in
       let w : o % max-settings < width-in b at (o / max-settings) = rw (width-is (o / max-settings) t) (e .1) in
       apart-at o (omega arith) ∙ rw (lt-ltb (o % max-settings) (width-in b at (o / max-settings)) w)
 
   -- and the others none
   has-none : (o : ℕ) → (Exists G p (occ o) → ⊥) → getD (apart b at) o none ≡ none
-  has-none o n = elim (decLt o labels) [ yes h ↦ apart-at o h ∙ missing (decLt (arity-at b at) (o / max-settings)) | no h ↦ List·getD-eq-default (apart b at) none (omega (arith, apart-long)) ]
+  has-none o n = elim (decLt o labels) [ yes h ↦ apart-at o h ∙ missing | no h ↦ List·getD-eq-default (apart b at) none (omega (arith, apart-long)) ]
     where
-      missing : Dec (arity-at b at < o / max-settings) → own b at o ≡ none
-      missing (yes l) =
-          let w : width-in b at (o / max-settings) ≤ o % max-settings = omega (arith, no-width (o / max-settings) l) in
-          rw (le-ltb (o % max-settings) (width-in b at (o / max-settings)) w)
-      missing (no l) =
-          let w = width-is (o / max-settings) (omega arith) in
-          let w : width-in b at (o / max-settings) ≤ o % max-settings =
-              elim (decLt (o % max-settings) (width G p (o / max-settings))) [ yes k ↦ absurd (n (omega (arith, kids-long), k)) | no k ↦ omega arith ] in
-          rw (le-ltb (o % max-settings) (width-in b at (o / max-settings)) w)
+      short : Dec (arity-at b at < o / max-settings) → Dec (o % max-settings < width G p (o / max-settings)) → width-in b at (o / max-settings) ≤ o % max-settings
+      short (yes k) d = omega (arith, no-width (o / max-settings) k)
+      short (no k) (yes m) = absurd (n (omega (arith, arity-read a p l), m))
+      short (no k) (no m) = let e = width-is (o / max-settings) (omega arith) in omega arith
+
+      missing : own b at o ≡ none
+      missing =
+          rw (le-ltb (o % max-settings) (width-in b at (o / max-settings))
+          (short (decLt (arity-at b at) (o / max-settings)) (decLt (o % max-settings) (width G p (o / max-settings)))))
 
   apart-present : (o : ℕ) → Present (apart b at) o ↔ Exists G p (occ o)
   apart-present o = (
     λ h. elim (exists-decided G p (occ o)) [ yes e ↦ e | no n ↦ absurd (omega (arith, has-none o n)) ],
-    λ e. let (k, l) = exists-low (occ o) e in omega (arith, has-own o e),
+    λ e. let (k, m) = exists-low (occ o) e in omega (arith, has-own o e),
   )
 
   apart-own : (o : ℕ) → Present (apart b at) o → getD (apart b at) o none ≡ o
@@ -133,12 +100,12 @@ module _ {b : List ℕ} {p : ℕ} (g : Grounds b p) where
   apart-state = record { long = apart-long; low = λ o. by-being o (exists-decided G p (occ o)) }
     where
       by-being : (o : ℕ) → Dec (Exists G p (occ o)) → Low (getD (apart b at) o none)
-      by-being o (yes e) = let (k, l) = exists-low (occ o) e in inl (omega (arith, has-own o e))
+      by-being o (yes e) = let (k, m) = exists-low (occ o) e in inl (omega (arith, has-own o e))
       by-being o (no n) = inr (has-none o n)
 
   -- ---- the pairs
   tied-exist : (o q : Occ) → Tied G p o q → Exists G p o × Exists G p q
-  tied-exist o q h = let e = g .lawful .named p o q (g .below) h in (e .0, e .1)
+  tied-exist o q h = let e = a .lawful .named p o q l h in (e .0, e .1)
 
   named-low : Ends (λ o. o .1 < 8) (G .ties p)
   named-low = ends-named (λ o. o .1 < 8) (G .ties p) (λ o q h. let e = tied-exist o q h in (exists-low o (e .0) .1, exists-low q (e .1) .1))
@@ -157,25 +124,12 @@ module _ {b : List ℕ} {p : ℕ} (g : Grounds b p) where
       ends-numbered (Present (apart b at)) (G .ties p)
       (ends-named (λ o. Present (apart b at) (number o)) (G .ties p) (λ o q h. let e = tied-exist o q h in (there o (e .0), there q (e .1))))
 
-  -- THEOREM: an entry of a lawful book can be read
+  -- THEOREM: an accepted book's entries can be read
   pub readable : Readable b at
-  readable = record { room = g .inside; low = λ i h. ends (named i h) }
-    where
-      long : length (bytes-at b at) ≡ 2 * pairs-at b at
-      long = length-part (at + 3 + arity-at b at) (2 * pairs-at b at) b (g .inside)
-
-      named : (i : ℕ) → i < pairs-at b at → Tied G p (occ (to-at b at i)) (occ (from-at b at i))
-      named i h =
-          subst₂ (λ x y. Named (G .ties p) (occ x) (occ y)) (getD-part (at + 3 + arity-at b at) (2 * pairs-at b at) b (2 * i) 0 (omega arith))
-          (getD-part (at + 3 + arity-at b at) (2 * pairs-at b at) b (2 * i + 1) 0 (omega arith) ∙ ap (λ (k : ℕ). getD b k 0) (sym (add-assoc (at + 3 + arity-at b at) (2 * i) 1)))
-          (tie-named (bytes-at b at) i (omega (arith, long)))
-
-      ends : {x y : ℕ} → Tied G p (occ x) (occ y) → (x < labels) × (y < labels)
-      ends {x} {y} t =
-          let (e, f) = tied-exist (occ x) (occ y) t in
-          let (k, l) = exists-low (occ x) e in
-          let (m, n) = exists-low (occ y) f in
-          (omega arith, omega arith)
+  readable = record {
+    room = omega (arith, inside a p l);
+    low = λ i h. let k : i < length (G .ties p) = omega (arith, pairs-read a p l) in (to-low a p l i k, from-low a p l i k);
+  }
 
   -- THEOREM: the base is a state of the occurrences that exist
   pub base-state : State (based b at)

@@ -1,15 +1,15 @@
 -- Labels that stand among gaps: the list of those that stand, where each is in it, and that labels by first appearance are pinned by which of
 -- them are equal.
-use mathlib.Core.Path.{_≡_, refl, sym, ap, ap₂, _∙_}
-use mathlib.Core.Logic.{_⊎_, inl, inr, _↔_}
+use mathlib.Core.Path.{_≡_, refl, sym, ap, _∙_}
+use mathlib.Core.Logic.{_↔_}
 use mathlib.Core.Bool.{Bool, true, false}
-use mathlib.Core.List.{List, [], _∷_, _++_}
-use Prim.Native.Nat.{ℕ, zero, suc, _+_, _≤_, _<_}
+use mathlib.Core.List.{List, [], _∷_}
+use Prim.Native.Nat.{ℕ, zero, suc, _<_}
 use native.Mathlib.Omega.{arith}
 use native.Mathlib.Decide.{ℕ-discrete}
-use borrow.Author.Tests.{eqb-true, eqb-false, eq-eqb, ne-eqb}
+use borrow.Author.Tests.{eqb-false, eq-eqb, ne-eqb}
 use lib.Dec.{eqb}
-use lib.ListN.{length, getD, length-append}
+use lib.ListN.{length, getD}
 use lib.Seq.{ext-getD}
 use Rattle.lists.specs.Pick.{pick}
 use Rattle.chains.specs.Grouping.{Proper}
@@ -36,7 +36,7 @@ kept-at (x ∷ l) (suc o) h = go (eqb x none) (kept-at l o h)
   where
     go : (b : Bool) → (before l o < length (kept l)) × (getD (kept l) (before l o) 0 ≡ getD l o none)
         → (pick b (before l o) (suc (before l o)) < length (pick b (kept l) (x ∷ kept l)))
-            × (getD (pick b (kept l) (x ∷ kept l)) (pick b (before l o) (suc (before l o))) 0 ≡ getD l o none)
+        × (getD (pick b (kept l) (x ∷ kept l)) (pick b (before l o) (suc (before l o))) 0 ≡ getD l o none)
     go true r = r
     go false r = (omega (arith, r .0), r .1)
 

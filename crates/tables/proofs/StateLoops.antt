@@ -16,7 +16,7 @@ use lib.Seq.{set-getD, ext-getD, take-all, take-suc-set, drop-cons}
 use Rattle.lists.specs.Pick.{pick}
 use Rattle.lists.specs.Part.{part, place}
 use Rattle.lists.specs.Sought.{Free, Least}
-use Rattle.lists.proofs.Sought.{free-none, free-more, free-fewer, least-once}
+use Rattle.lists.proofs.Sought.{free-more, free-fewer, least-once}
 use Rattle.lists.proofs.Parts.{length-part, getD-part}
 use Rattle.lists.proofs.Copied.{Copying, copy-turn, copy-done}
 use Rattle.lists.proofs.Carry.{placed}
@@ -28,10 +28,11 @@ use Rattle.chains.specs.State.{numbers, pairs-from, code-pairs}
 use Rattle.chains.proofs.Labels.{length-joinAt, length-labels}
 use Rattle.chains.proofs.Appearance.{index-at, index-first}
 use Rattle.chains.proofs.Codes.{length-unpack, unpack-at}
-use Rattle.book.specs.Format.{left-at, arity-at, pairs-at, bytes-at, ties-of}
-use Rattle.book.specs.Reading.{settings-of, kid-at, to-at, from-at}
+use Rattle.book.specs.Format.{arity-at, pairs-at, bytes-at, ties-of}
+use Rattle.book.specs.Reading.{settings-of, kind-in, to-at, from-at}
+use Rattle.book.specs.Search.{Tells}
 use Rattle.ranks.specs.Entries.{labels, none}
-use Rattle.tables.specs.State.{Low, spot, Readable, kind-in, width-in, own, apart, based, Numbered, Tells}
+use Rattle.tables.specs.State.{Low, spot, Readable, width-in, own, apart, based, Numbered}
 
 -- ---- joining along pairs
 swap-same : (a x : ℕ) → swap a a x ≡ x
@@ -52,12 +53,6 @@ join-same l i j e = rw e (relabel-same (getD l j 0) l)
 
 -- ---- a production's own occurrences, read off its entry
 module _ (b : List ℕ) (at : ℕ) where
-  pub left-kind : {t k : ℕ} → t ≡ 0 → k ≡ left-at b at → k ≡ kind-in b at t
-  left-kind {t} {k} e h = h ∙ sym (rw (eq-eqb t 0 e))
-
-  pub kid-kind : {t k : ℕ} → (t ≡ 0 → ⊥) → k ≡ kid-at b at (t - 1) → k ≡ kind-in b at t
-  kid-kind {t} {k} e h = h ∙ sym (rw (ne-eqb t 0 e))
-
   pub no-slot : {t n : ℕ} → n ≡ arity-at b at → n < t → 0 ≡ width-in b at t
   no-slot {t} {n} e h = sym (rw (lt-ltb (arity-at b at) t (rw e at h)))
 
@@ -139,15 +134,21 @@ module _ {b : List ℕ} {at : ℕ} {s : List ℕ} {i : ℕ} (h : Basing b at s i
   pub base-low : {x y : ℕ} → i < pairs-at b at → x ≡ to-at b at i → y ≡ from-at b at i → (x < labels) × (y < labels) × (length s ≡ labels)
   base-low l p q = (rw p (r .low i l .0), rw q (r .low i l .1), h .long)
 
+  to-byte : i < pairs-at b at → getD (bytes-at b at) (2 * i) 0 ≡ to-at b at i
+  to-byte l = getD-part (at + 3 + arity-at b at) (2 * pairs-at b at) b (2 * i) 0 (omega arith)
+
+  from-byte : i < pairs-at b at → getD (bytes-at b at) (2 * i + 1) 0 ≡ from-at b at i
+  from-byte l =
+      getD-part (at + 3 + arity-at b at) (2 * pairs-at b at) b (2 * i + 1) 0 (omega arith)
+      ∙ ap (λ (k : ℕ). getD b k 0) (sym (add-assoc (at + 3 + arity-at b at) (2 * i) 1))
+
   pub base-turn : (x y : ℕ) (s′ : List ℕ) → i < pairs-at b at → x ≡ to-at b at i → y ≡ from-at b at i → s′ ≡ joinAt s x y → Basing b at s′ (i + 1)
   unfolding joins
   base-turn x y s′ l p q j =
       let bs = bytes-at b at in
       let rest = numbers (ties-of (drop (2 * (i + 1)) bs)) in
-      let u : getD bs (2 * i) 0 ≡ x = getD-part (at + 3 + arity-at b at) (2 * pairs-at b at) b (2 * i) 0 (omega arith) ∙ sym p in
-      let v : getD bs (2 * i + 1) 0 ≡ y =
-          getD-part (at + 3 + arity-at b at) (2 * pairs-at b at) b (2 * i + 1) 0 (omega arith)
-          ∙ ap (λ (k : ℕ). getD b k 0) (sym (add-assoc (at + 3 + arity-at b at) (2 * i) 1)) ∙ sym q in
+      let u : getD bs (2 * i) 0 ≡ x = to-byte l ∙ sym p in
+      let v : getD bs (2 * i + 1) 0 ≡ y = from-byte l ∙ sym q in
       record {
         few = omega arith;
         long = ap length j ∙ length-joinAt s x y ∙ h .long;
@@ -286,18 +287,18 @@ module _ {s t : List ℕ} {from o : ℕ} where
   pub compare-turn : Comparing s t from o → o < labels → getD s o 0 ≡ getD t (from + o) 0 → Comparing s t from (o + 1)
   compare-turn h l e = record { at = omega arith; alike = below-more _ _ (h .alike) e }
 
-  pub compare-done : Comparing s t from o → labels ≤ o → length s ≡ labels → from + labels ≤ length t → Tells true (part from labels t ≡ s)
-  compare-done h l a b = record { yes = λ _. ext-getD 0 (part from labels t) s (length-part from labels t b ∙ sym a) go; no = λ e. absurd (true≢false e) }
+  pub compare-done : Comparing s t from o → labels ≤ o → length s ≡ labels → from + labels ≤ length t → Tells (part from labels t ≡ s) true
+  compare-done h l a b = record { holds = λ _. ext-getD 0 (part from labels t) s (length-part from labels t b ∙ sym a) go; fails = λ e. absurd (true≢false e) }
     where
       go : (i : ℕ) → i < length (part from labels t) → getD (part from labels t) i 0 ≡ getD s i 0
       go i k =
           let m : i < labels = omega (arith, length-part from labels t b) in
           getD-part from labels t i 0 m ∙ sym (h .alike i (omega arith))
 
-  pub compare-apart : Comparing s t from o → o < labels → (getD s o 0 ≡ getD t (from + o) 0 → ⊥) → Tells false (part from labels t ≡ s)
+  pub compare-apart : Comparing s t from o → o < labels → (getD s o 0 ≡ getD t (from + o) 0 → ⊥) → Tells (part from labels t ≡ s) false
   compare-apart h l n = record {
-    yes = λ e. absurd (true≢false (sym e));
-    no = λ _ p. n (ap (λ (u : List ℕ). getD u o 0) (sym p) ∙ getD-part from labels t o 0 l);
+    holds = λ e. absurd (true≢false (sym e));
+    fails = λ _ p. n (ap (λ (u : List ℕ). getD u o 0) (sym p) ∙ getD-part from labels t o 0 l);
   }
 
 -- ---- a state put into a list

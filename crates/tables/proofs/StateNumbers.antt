@@ -1,17 +1,17 @@
 -- Labels numbered by first appearance with a table of their numbers: one turn for each label, and what the loops over a state and over a slot
 -- come to.
 use mathlib.Core.Path.{_≡_, refl, sym, ap, _∙_}
-use mathlib.Core.Logic.{_⊎_, inl, inr}
+use mathlib.Core.Logic.{inl, inr}
 use mathlib.Core.Bool.{Bool, true, false}
 use mathlib.Core.List.{List, [], _∷_, _++_, append-nil}
-use Prim.Native.Nat.{ℕ, zero, suc, _+_, _-_, _*_, _%_, _^_, _≤_, _<_}
+use Prim.Native.Nat.{ℕ, zero, suc, _+_, _*_, _%_, _^_, _≤_, _<_}
 use native.Mathlib.Nat.{pow-suc, pow-le-pow-right, mod-eq-of-lt, mul-le-mul-right, mul-comm, mul-assoc, mul-add, mul-zero, add-comm, add-assoc, add-zero}
 use native.Mathlib.Numerals.{add-one}
 use native.Mathlib.Omega.{arith}
-use borrow.Author.Tests.{eqb-true, eqb-false, eq-eqb, ne-eqb, ltb-true, ltb-false, lt-ltb, le-ltb}
+use borrow.Author.Tests.{eq-eqb, ne-eqb, lt-ltb, le-ltb}
 use native.Mathlib.Decide.{decLt, ℕ-discrete}
 use lib.Bits.{bitOr, or-shifted-r}
-use lib.Dec.{eqb, ltb}
+use lib.Dec.{eqb}
 use lib.ListN.{length, getD, set, take, drop, replicate, length-append, length-set, length-replicate, getD-replicate, drop-of-length-le}
 use lib.Seq.{getD-set-same, getD-set-other, set-getD, take-suc-set, drop-set-lt, drop-cons, append-snoc, take-all}
 use Rattle.lists.specs.Pick.{pick}
@@ -319,6 +319,6 @@ shifted-in c x k hx hk hc =
     let j : x + 1 ≤ 8 = omega arith in
     let t : 8 ^ (x + 1) ≤ 8 ^ 8 = pow-le-pow-right (omega arith) j in
     let q : k * 2 ^ (3 * x) % 4294967296 ≡ k * 2 ^ (3 * x) = mod-eq-of-lt (omega (arith, ap (λ (z : ℕ). k * z) e)) in
-    let r : bitOr c (k * 2 ^ (3 * x) % 4294967296) ≡ c + k * 8 ^ x =
-        ap (bitOr c) q ∙ or-shifted-r k (3 * x) c (omega arith) ∙ add-comm (k * 2 ^ (3 * x)) c ∙ ap (λ (z : ℕ). c + k * z) e in
+    let u : bitOr c (k * 2 ^ (3 * x)) ≡ c + k * 2 ^ (3 * x) = or-shifted-r k (3 * x) c (omega arith) ∙ add-comm (k * 2 ^ (3 * x)) c in
+    let r : bitOr c (k * 2 ^ (3 * x) % 4294967296) ≡ c + k * 8 ^ x = ap (bitOr c) q ∙ u ∙ ap (λ (z : ℕ). c + k * z) e in
     (r, omega arith)

@@ -1,24 +1,25 @@
 -- A state tidied: the same occurrences in the same groups, labelled by first appearance. So it is what a down entry holds.
 use mathlib.Core.Path.{_≡_, refl, sym, ap, _∙_}
-use mathlib.Core.Logic.{_⊎_, inl, inr, _↔_}
+use mathlib.Core.Logic.{inl, inr, _↔_}
 use mathlib.Core.Bool.{Bool, true, false}
 use mathlib.Core.List.{List, [], _∷_, _++_}
-use Prim.Native.Nat.{ℕ, zero, suc, _+_, _≤_, _<_}
+use Prim.Native.Nat.{ℕ, suc, _+_, _≤_, _<_}
 use native.Mathlib.Omega.{arith}
 use native.Mathlib.Decide.{decLt, ℕ-discrete}
-use borrow.Author.Tests.{eq-eqb, ne-eqb, eqb-true, eqb-false}
+use borrow.Author.Tests.{eq-eqb, ne-eqb}
 use lib.Dec.{eqb, ltb}
 use lib.ListN.{length, getD, length-append, List·getD-eq-default}
 use Rattle.lists.specs.Pick.{pick}
-use Rattle.chains.specs.Grammar.{Occ, Grammar, slots, width, Exists}
+use Rattle.chains.specs.Grammar.{Occ, Grammar, Exists}
 use Rattle.chains.specs.Grouping.{Proper}
 use Rattle.chains.specs.Labels.{index, add, canonFrom, canon}
 use Rattle.chains.proofs.Appearance.{index-le, length-canon, canon-iff, canon-proper, proper-le}
 use Rattle.book.specs.Format.{occ}
+use Rattle.book.proofs.Decided.{exists-decided}
 use Rattle.ranks.specs.Entries.{labels, none}
 use Rattle.tables.specs.Entries.{kept, Labelled}
 use Rattle.tables.specs.State.{Present, Same, Low, State, tidyFrom, tidied}
-use Rattle.tables.proofs.StateKept.{Stands, before, kept-at, Fit, end, gap, both, fit, fit-before, fit-kept, fit-long, fit-gap, labels-once}
+use Rattle.tables.proofs.StateKept.{Stands, before, kept-at, Fit, end, gap, both, fit, fit-before, fit-long, fit-gap, labels-once}
 
 add-long : (x : ℕ) (s : List ℕ) → length (add x s) ≤ suc (length s)
 unfolding add
@@ -78,8 +79,7 @@ module _ {s : List ℕ} (st : State s) where
   -- the new label of what stands at o
   at : (o : ℕ) → Stands s o → (getD (tidied s) o none ≡ getD (canon (kept s)) (before s o) 0) × (before s o < length (kept s))
   at o h =
-      let k = kept-at (tidied s) o (λ e. h (fit-gap fits o .0 e)) in
-      (
+      let k = kept-at (tidied s) o (λ e. h (fit-gap fits o .0 e)) in (
         sym (k .1) ∙ ap (λ (u : List ℕ). getD u (before (tidied s) o) 0) (tidy-kept s [] few) ∙ ap (λ (i : ℕ). getD (canon (kept s)) i 0) (fit-before fits o),
         kept-at s o h .0,
       )
@@ -116,9 +116,9 @@ module _ {s : List ℕ} (st : State s) where
   pub tidy-same : (o o′ : ℕ) → Same (tidied s) o o′ ↔ Same s o o′
   tidy-same o o′ = (
     λ (p, p′, e).
-      let q = tidy-present o .0 p in
-      let q′ = tidy-present o′ .0 p′ in
-      (q, q′, equal o o′ (stands o q) (stands o′ q′) .0 e),
+        let q = tidy-present o .0 p in
+        let q′ = tidy-present o′ .0 p′ in
+        (q, q′, equal o o′ (stands o q) (stands o′ q′) .0 e),
     λ (q, q′, e). (tidy-present o .1 q, tidy-present o′ .1 q′, equal o o′ (stands o q) (stands o′ q′) .1 e),
   )
 
@@ -142,21 +142,12 @@ tidy-once {s} {t} hs ht there same = labels-once (tidied s) (tidied t) gaps (tid
         let p = present (tidy-state hs) o h in
         let p′ = present (tidy-state hs) o′ h′ in
         let q = tidy-present ht o .1 (there o .0 (tidy-present hs o .0 p)) in
-        let q′ = tidy-present ht o′ .1 (there o′ .0 (tidy-present hs o′ .0 p′)) in
-        (
+        let q′ = tidy-present ht o′ .1 (there o′ .0 (tidy-present hs o′ .0 p′)) in (
           λ e. tidy-same ht o o′ .1 (same o o′ .0 (tidy-same hs o o′ .0 (p, p′, e))) .2,
           λ e. tidy-same hs o o′ .1 (same o o′ .1 (tidy-same ht o o′ .0 (q, q′, e))) .2,
         )
 
 -- ---- what a down entry holds
-pub exists-decided : (G : Grammar) (p : ℕ) (o : Occ) → Dec (Exists G p o)
-exists-decided G p o = go (decLt (o .0) (length (slots G p))) (decLt (o .1) (width G p (o .0)))
-  where
-    go : Dec (o .0 < length (slots G p)) → Dec (o .1 < width G p (o .0)) → Dec (Exists G p o)
-    go (yes h) (yes l) = yes (h, l)
-    go (yes h) (no l) = no (λ e. l (e .1))
-    go (no h) l = no (λ e. h (e .0))
-
 module _ (G : Grammar) (p : ℕ) (R : Occ → Occ → Type 0) where
   -- THEOREM: a state of a production's occurrences, with R's groups, is labelled once it is tidied
   pub tidy-labelled : {s : List ℕ} → State s → ((o : ℕ) → o < labels → Present s o ↔ Exists G p (occ o))
@@ -167,16 +158,16 @@ module _ (G : Grammar) (p : ℕ) (R : Occ → Occ → Type 0) where
     absent = λ o h n. elim (tidy-state st .low o) [ inl l ↦ absurd (n (there o h .0 (tidy-present st o .0 (omega arith)))) | inr e ↦ e ];
     first = tidy-proper st;
     same = λ o o′ h h′ x x′.
-      let q = there o h .1 x in
-      let q′ = there o′ h′ .1 x′ in
-      let t = tidy-same st o o′ in
-      let u = same o o′ q q′ in
-      (λ e. u .0 (t .0 (tidy-present st o .1 q, tidy-present st o′ .1 q′, e)), λ r. t .1 (u .1 r) .2);
+        let q = there o h .1 x in
+        let q′ = there o′ h′ .1 x′ in
+        let t = tidy-same st o o′ in
+        let u = same o o′ q q′ in
+        (λ e. u .0 (t .0 (tidy-present st o .1 q, tidy-present st o′ .1 q′, e)), λ r. t .1 (u .1 r) .2);
   }
 
   -- THEOREM: labels for one R are one list
-  pub labelled-once : {l m : List ℕ} → Labelled G p R l → Labelled G p R m → l ≡ m
-  labelled-once {l} {m} a b = labels-once l m gaps (a .first) (b .first) groups
+  pub labelled-once : (l m : List ℕ) → Labelled G p R l → Labelled G p R m → l ≡ m
+  labelled-once l m a b = labels-once l m gaps (a .first) (b .first) groups
     where
       gap-to : {u v : List ℕ} → Labelled G p R u → Labelled G p R v → (o : ℕ) → o < labels → getD u o none ≡ none → getD v o none ≡ none
       gap-to {u} {v} c d o h e = elim (exists-decided G p (occ o)) [ yes x ↦ absurd (let z = c .present o h x in omega arith) | no n ↦ d .absent o h n ]

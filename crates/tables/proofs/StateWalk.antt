@@ -1,8 +1,8 @@
 -- The walk over a production's slots, by states: what is gathered from a state over the slots that are left.
-use mathlib.Core.Path.{_≡_, refl, sym, _∙_, subst}
-use mathlib.Core.Logic.{_⊎_, inl, inr, _↔_}
+use mathlib.Core.Path.{_≡_, sym, _∙_, subst}
+use mathlib.Core.Logic.{_↔_}
 use mathlib.Core.List.{List}
-use Prim.Native.Nat.{ℕ, _+_, _-_, _*_, _/_, _%_, _≤_, _<_}
+use Prim.Native.Nat.{ℕ, _-_, _/_, _%_, _≤_, _<_}
 use native.Mathlib.Omega.{arith}
 use lib.ListN.{length}
 use Rattle.chains.specs.Limits.{max-settings, max-kids}
@@ -13,15 +13,15 @@ use Rattle.chains.specs.Labels.{joins}
 use Rattle.chains.specs.Gather.{Result, TiedTo, Remaining, Outside, UpTo, Towards}
 use Rattle.chains.specs.State.{number, Shown, dropped, code-on, code-pairs}
 use Rattle.chains.proofs.Says.{says-unique, says-map}
-use Rattle.chains.proofs.Gather.{result-map, up-none, up-more, towards-none, towards-skip, towards-more}
+use Rattle.chains.proofs.Gather.{result-map, up-none, up-more, towards-none, towards-more}
 use Rattle.chains.proofs.State.{code-says}
 use Rattle.chains.proofs.Tying.{tied-shown, turned}
-use Rattle.book.specs.Format.{occ, entry, grammar}
-use Rattle.ranks.specs.Entries.{labels, none}
-use Rattle.tables.specs.State.{Present, Same, State, spot, Whole, tidied, based}
+use Rattle.book.specs.Format.{prods, entry, grammar}
+use Rattle.book.proofs.Accepted.{Accepted}
+use Rattle.tables.specs.State.{Present, State, spot, Whole, tidied, based}
 use Rattle.tables.proofs.State.{tie-means, forget-state, forget-present}
 use Rattle.tables.proofs.StateTidy.{tidy-state, tidy-present, tidy-same}
-use Rattle.tables.proofs.StateBase.{Grounds, base-state, base-present, base-chains}
+use Rattle.tables.proofs.StateBase.{few-settings, base-present, base-chains}
 
 -- a tidied state shows what it showed
 pub tidy-shown : {s : List ℕ} → State s → (o q : Occ) → Shown (tidied s) o q ↔ Shown s o q
@@ -91,8 +91,7 @@ module _ (G : Grammar) (p : ℕ) {s : List ℕ} (st : State s) (j : ℕ) (hj : j
   pub up-turn : (Codes : ℕ → ℕ → Type 0) (x : ℕ) → 0 < j
       → Result G p 0 Codes (UpTo j) (Shown s) x ↔ ((c : ℕ) × Codes j c × Result G p 0 Codes (UpTo (j - 1)) (Shown (stepped s j (width G p j) c)) x)
   up-turn Codes x h =
-      let a = up-more G p Codes (Shown s) x j h in
-      (
+      let a = up-more G p Codes (Shown s) x j h in (
         λ r. let (c, m, q) = a .0 r in (c, m, step-result c 0 Codes (UpTo (j - 1)) x .0 q),
         λ (c, m, q). a .1 (c, m, step-result c 0 Codes (UpTo (j - 1)) x .1 q),
       )
@@ -126,23 +125,23 @@ module _ (G : Grammar) (p : ℕ) {s : List ℕ} (st : State s) (j : ℕ) (hj : j
 pub towards-turn : (G : Grammar) (p t : ℕ) {s : List ℕ} → State s → (j : ℕ) → 0 < j → (j - 1 ≡ t → ⊥) → j - 1 ≤ max-kids → width G p (j - 1) ≤ max-settings
     → Whole s (j - 1) (width G p (j - 1)) → (Codes : ℕ → ℕ → Type 0) (x : ℕ)
     → Result G p t Codes (Towards t j) (Shown s) x
-        ↔ ((c : ℕ) × Codes (j - 1) c × Result G p t Codes (Towards t (j - 1)) (Shown (stepped s (j - 1) (width G p (j - 1)) c)) x)
+    ↔ ((c : ℕ) × Codes (j - 1) c × Result G p t Codes (Towards t (j - 1)) (Shown (stepped s (j - 1) (width G p (j - 1)) c)) x)
 towards-turn G p t {s} st j h n hj hw w Codes x =
     let a = towards-more G p t Codes (Shown s) x j h n in
-    let k = step-result G p st (j - 1) hj hw w in
-    (
+    let k = step-result G p st (j - 1) hj hw w in (
       λ r. let (c, m, q) = a .0 r in (c, m, k c t Codes (Towards t (j - 1)) x .0 q),
       λ (c, m, q). a .1 (c, m, k c t Codes (Towards t (j - 1)) x .1 q),
     )
 
 -- ---- the base of a production
-module _ {b : List ℕ} {p : ℕ} (g : Grounds b p) where
+module _ {b : List ℕ} (a : Accepted b) (p : ℕ) (l : p < prods b) where
   -- every setting of every slot is there
-  pub base-whole : (t : ℕ) → t < length (slots (grammar b) p) → width (grammar b) p t ≤ max-settings → Whole (based b (entry b p)) t (width (grammar b) p t)
-  base-whole t ht hw x hx =
+  pub base-whole : (t : ℕ) → t < length (slots (grammar b) p) → Whole (based b (entry b p)) t (width (grammar b) p t)
+  base-whole t ht x hx =
+      let w = few-settings a p l t ht in
       let d : spot t x / max-settings ≡ t = omega arith in
       let m : spot t x % max-settings ≡ x = omega arith in
-      base-present g (spot t x) .1 (rw d ht, rw (d, m) hx)
+      base-present a p l (spot t x) .1 (rw d ht, rw (d, m) hx)
 
   -- THEOREM: the base stands for the production's dependences
   pub base-result : (t : ℕ) (Codes : ℕ → ℕ → Type 0) (Open : ℕ → Type 0) (x : ℕ)
@@ -153,7 +152,7 @@ module _ {b : List ℕ} {p : ℕ} (g : Grounds b p) where
   )
     where
       to : (o q : Occ) → Shown (based b (entry b p)) o q → Eqv (Tied (grammar b) p) o q
-      to o q h = base-chains g o q .0 (fwd done h)
+      to o q h = base-chains a p l o q .0 (fwd done h)
 
       from : (o q : Occ) → Tied (grammar b) p o q → Eqv (Shown (based b (entry b p))) o q
-      from o q h = base-chains g o q .1 (fwd done h)
+      from o q h = base-chains a p l o q .1 (fwd done h)

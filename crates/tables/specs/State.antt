@@ -2,9 +2,8 @@
 -- labels are equal; an occurrence that does not exist, or that was dropped, has none.
 use mathlib.Core.Path.{_≡_}
 use mathlib.Core.Logic.{_⊎_, _↔_}
-use mathlib.Core.Bool.{Bool, true, false}
 use mathlib.Core.List.{List, [], _∷_}
-use Prim.Native.Nat.{ℕ, _+_, _-_, _*_, _/_, _%_, _≤_, _<_}
+use Prim.Native.Nat.{ℕ, _+_, _*_, _/_, _%_, _≤_, _<_}
 use lib.Dec.{eqb, ltb}
 use lib.ListN.{length, getD, set}
 use Rattle.lists.specs.Pick.{pick}
@@ -13,8 +12,8 @@ use Rattle.chains.specs.Chain.{Eqv}
 use Rattle.chains.specs.Grouping.{label}
 use Rattle.chains.specs.Labels as labelling
 use Rattle.chains.specs.State.{numbers}
-use Rattle.book.specs.Format.{left-at, arity-at, pairs-at, bytes-at, next-at, ties-of}
-use Rattle.book.specs.Reading.{settings-of, kid-at, to-at, from-at}
+use Rattle.book.specs.Format.{arity-at, pairs-at, bytes-at, next-at, ties-of}
+use Rattle.book.specs.Reading.{settings-of, kind-in, to-at, from-at}
 use Rattle.ranks.specs.Entries.{labels, none}
 
 -- o is there
@@ -52,10 +51,6 @@ abbrev pub Grouped : ℕ → ℕ → ℕ → ℕ → ℕ → Type 0
 Grouped t a c x y = (i : ℕ) × (j : ℕ) × (i < a) × (j < a) × (x ≡ spot t i) × (y ≡ spot t j) × (label c i ≡ label c j)
 
 -- ── a production's own occurrences and pairs, off the entry at the place at of the book b ──
--- the kind of slot t
-abbrev pub kind-in : List ℕ → ℕ → ℕ → ℕ
-kind-in b at t = pick (eqb t 0) (left-at b at) (kid-at b at (t - 1))
-
 -- the number of settings in slot t
 abbrev pub width-in : List ℕ → ℕ → ℕ → ℕ
 width-in b at t = pick (ltb (arity-at b at) t) 0 (settings-of b (kind-in b at t))
@@ -94,8 +89,3 @@ pub record Numbered (t : List ℕ) (x next : ℕ) (t′ : List ℕ) (r : ℕ) : 
 pub record Renumbered (t : List ℕ) (x next : ℕ) (t′ : List ℕ) (r : ℕ) : Type 0 where
   pub missing : x ≡ none → (r ≡ none) × (t′ ≡ t)
   pub label : x < labels → Numbered t x next t′ r
-
--- ── whether a test says that P holds ──
-pub record Tells (r : Bool) (P : Type 0) : Type 0 where
-  pub yes : r ≡ true → P
-  pub no : r ≡ false → P → ⊥

@@ -11,13 +11,14 @@ ghost use Rattle.chains.specs.Limits.{max-settings, max-kids};
 ghost use Rattle.chains.specs.Grouping.{label};
 ghost use Rattle.chains.specs.Labels.{swap, relabel, joinAt, joins};
 ghost use Rattle.chains.specs.State.{code-pairs, dropped, code-on};
+ghost use Rattle.book.specs.Search.{Tells};
 ghost use Rattle.ranks.specs.Entries.{labels, none};
-ghost use Rattle.tables.specs.State.{Low, State, Whole, Readable, kind-in, width-in, own, apart, based, Numbered, Renumbered, tidied, Tells};
+ghost use Rattle.tables.specs.State.{Low, State, Whole, Readable, width-in, own, apart, based, Numbered, Renumbered, tidied};
 
-// Settings to a slot, and slots to a production: what an occurrence number counts.
-pub const SETTINGS: usize = 8;
+// Occurrence numbers to a slot, and to a production: slot 0 and a slot for each child.
+pub const SETTINGS: usize = book::limits::MAX_SETTINGS as usize;
 
-pub const LABELS: usize = 40;
+pub const LABELS: usize = (1 + book::limits::MAX_CHILDREN as usize) * SETTINGS;
 
 // No label.
 pub const NONE: u8 = 255;
@@ -30,6 +31,7 @@ fn wide(x: u8) -> usize
 
 // ---- joining
 
+// x, or a where it is b.
 fn swapped(x: u8, a: u8, b: u8) -> u8
     ensures { λ r. ⌜ r ≡ swap a b x ⌝ }
 {
@@ -62,17 +64,6 @@ pub fn merge(s: &mut [u8; LABELS], i: usize, j: usize)
 
 // ---- a production's own occurrences and pairs
 
-// The kind of a slot.
-fn kind(book: &[u8], at: usize, slot: u8) -> u8
-    ensures { λ r. ⌜ r ≡ kind-in (now (book .entry)) at slot ⌝ }
-{
-    if slot == 0 {
-        book::left(book, at)
-    } else {
-        book::kid(book, at, slot - 1)
-    }
-}
-
 // The number of settings in a slot.
 pub fn width(book: &[u8], at: usize, slot: u8) -> u8
     ensures { λ r. ⌜ r ≡ width-in (now (book .entry)) at slot ⌝ }
@@ -80,7 +71,7 @@ pub fn width(book: &[u8], at: usize, slot: u8) -> u8
     if book::arity(book, at) < slot {
         return 0;
     }
-    book::settings(book, kind(book, at, slot))
+    book::settings(book, book::kind_in(book, at, slot))
 }
 
 // An occurrence's own number, if it exists.
@@ -115,7 +106,11 @@ pub fn base(book: &[u8], at: usize, s: &mut [u8; LABELS])
     let n = book::pairs(book, at);
     let mut i: u8 = 0;
     while i < n {
-        merge(s, wide(book::to(book, at, i)), wide(book::from(book, at, i)));
+        merge(
+            s,
+            wide(book::to(book, at, i)),
+            wide(book::from(book, at, i)),
+        );
         i += 1;
     }
 }
@@ -162,6 +157,7 @@ pub fn tie(s: &mut [u8; LABELS], slot: u8, a: u8, code: u32)
 
 // ---- a slot dropped
 
+// None of the slot's occurrences is there any more.
 pub fn forget(s: &mut [u8; LABELS], slot: u8)
     requires { ⌜ (length (now s) ≡ labels) × (slot ≤ max-kids) ⌝ }
     ensures { λ _. ⌜ now (s .exit) ≡ dropped slot (now (s .entry)) ⌝ }
@@ -201,6 +197,7 @@ fn renumber(numbers: &mut [u8; LABELS], x: u8, next: u8) -> u8
     number(numbers, x, next)
 }
 
+// The next number, after k was given.
 fn following(next: u8, k: u8) -> u8
     requires { ⌜ next < none ⌝ }
     ensures { λ r. ⌜ r ≡ pick (eqb k next) (next + 1) next ⌝ }
@@ -256,7 +253,7 @@ pub fn view(s: &[u8; LABELS], slot: u8, a: u8) -> u32
 // Whether the labels stand in t, from a place on.
 pub fn same_state(s: &[u8; LABELS], t: &[u8], from: usize) -> bool
     requires { ⌜ (length (now s) ≡ labels) × (from + labels ≤ length (now t)) ⌝ }
-    ensures { λ r. ⌜ Tells r (part from labels (now (t .entry)) ≡ now (s .entry)) ⌝ }
+    ensures { λ r. ⌜ Tells (part from labels (now (t .entry)) ≡ now (s .entry)) r ⌝ }
 {
     let mut o = 0;
     while o < LABELS {

@@ -1,4 +1,4 @@
-mod sets;
 mod labels;
 mod seen;
 mod gather;
+mod sets;

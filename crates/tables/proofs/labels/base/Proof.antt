@@ -19,7 +19,7 @@ pairs-requires : tie.Need-pairs-requires Inv-loop μ-loop
 pairs-requires c κs = search needs
 
 loop-holds : tie.Need-loop-holds Inv-loop μ-loop
-loop-holds c = 
+loop-holds c =
     let a = c .before .before .before .before .args in
     base-begun (a .book .now) (a .at) _ (c .before .lay .ensures)
 
@@ -36,7 +36,7 @@ wide-requires-2 : tie.Need-wide-requires-2 Inv-loop μ-loop
 wide-requires-2 c κs = search needs
 
 merge-requires : tie.Need-merge-requires Inv-loop μ-loop
-merge-requires c κs = 
+merge-requires c κs =
     let o = c .before .before .before .before .before .before in
     let l = rw (o .before .pairs .ensures) at (c .before .before .before .before .before .loop-test .taken) in
     base-low (o .loop .inv) (c .before .before .before .before .before .before .before .before .before .before .before .pre .1) l (c .before .before .wide .ensures .0 ∙ c .before .before .before .to .ensures) (c .wide2 .ensures .0 ∙ c .before .from .ensures)
@@ -48,7 +48,7 @@ loop-less : tie.Need-loop-less Inv-loop μ-loop
 loop-less c = search needs
 
 loop-again : tie.Need-loop-again Inv-loop μ-loop
-loop-again c = 
+loop-again c =
     let o = c .before .before .before .before .before .before .before in
     let l = rw (o .before .pairs .ensures) at (c .before .before .before .before .before .before .loop-test .taken) in
     base-turn (o .loop .inv) (c .before .before .before .before .before .before .before .before .before .before .before .before .pre .1) _ _ _ l (c .before .before .before .wide .ensures .0 ∙ c .before .before .before .before .to .ensures) (c .before .wide2 .ensures .0 ∙ c .before .before .from .ensures) (c .merge .ensures)

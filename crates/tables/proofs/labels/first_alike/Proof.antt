@@ -26,7 +26,7 @@ label-requires-2 : tie.Need-label-requires-2 Inv-loop μ-loop
 label-requires-2 c κs = search needs
 
 returns : tie.Need-returns Inv-loop μ-loop
-returns c = 
+returns c =
     let o = c .before .before .before in
     alike-found _ _ (o .loop .inv) (o .before .label .ensures) (sym (c .before .label2 .ensures) ∙ c .if1 .taken)
 
@@ -37,7 +37,7 @@ loop-less : tie.Need-loop-less Inv-loop μ-loop
 loop-less c = search needs
 
 loop-again : tie.Need-loop-again Inv-loop μ-loop
-loop-again c = 
+loop-again c =
     let o = c .before .before .before in
     alike-passed _ _ (omega arith) (o .loop .inv .1) (o .before .label .ensures) (λ e. c .if1 .left (c .before .label2 .ensures ∙ e))
 

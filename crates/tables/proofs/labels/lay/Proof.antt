@@ -1,7 +1,6 @@
 -- Every occurrence by itself. Assumes nothing.
 use borrow.Author.Needs.{needs}
 use Prim.Native.Nat.{_-_}
-use native.Mathlib.Omega.{arith}
 use Rattle.ranks.specs.Entries.{labels}
 use Rattle.tables.specs.State.{own}
 use Rattle.tables.proofs.StateLoops.{Laying, lay-begun, lay-turn, lay-done}

@@ -14,12 +14,12 @@ width-requires : tie.Need-width-requires
 width-requires c κs = search needs
 
 returns : tie.Need-returns
-returns c = 
+returns c =
     let a = c .before .before .before .before .before .args in
     own-there (a .book .now) (a .at) (a .o) (c .before .before .before .setting .ensures) (c .before .before .slot .ensures) (c .before .width .ensures) (c .if1 .taken)
 
 returns-2 : tie.Need-returns-2
-returns-2 c = 
+returns-2 c =
     let a = c .before .before .before .before .before .args in
     own-missing (a .book .now) (a .at) (a .o) (c .before .before .before .setting .ensures) (c .before .before .slot .ensures) (c .before .width .ensures) (c .if1 .left)
 

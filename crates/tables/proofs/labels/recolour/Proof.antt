@@ -3,7 +3,6 @@ use borrow.Author.Needs.{needs}
 use mathlib.Core.Path.{_≡_, refl}
 use Prim.Native.Nat.{_≤_, _-_}
 use native.Mathlib.Omega.{arith}
-use lib.ListN.{length}
 use Rattle.lists.proofs.MapTo.{mapTo, mapTo-more, mapTo-all}
 use Rattle.chains.specs.Labels.{swap, relabel}
 use Rattle.ranks.specs.Entries.{labels}
@@ -36,14 +35,14 @@ loop-less : tie.Need-loop-less Inv-loop μ-loop
 loop-less c = search needs
 
 loop-again : tie.Need-loop-again Inv-loop μ-loop
-loop-again c = 
+loop-again c =
     let o = c .before .before .before in
     let s = o .before in
     (omega arith, rw (c .swapped .ensures, o .loop .inv .1) (mapTo-more (swap (s .args .a) (s .args .b)) (o .loop .o) (s .args .s .now) (omega arith)))
 
 returns : tie.Need-returns Inv-loop μ-loop
 unfolding relabel
-returns c = 
+returns c =
     let s = c .before .before in
     rw (c .before .loop .inv .1) (mapTo-all (swap (s .args .a) (s .args .b)) (c .before .loop .o) (s .args .s .now) (omega arith))
 

@@ -1,6 +1,5 @@
 -- A state held against a part of a list. Assumes nothing.
 use borrow.Author.Needs.{needs}
-use mathlib.Core.Path.{sym}
 use Prim.Native.Nat.{_-_}
 use native.Mathlib.Omega.{arith}
 use Rattle.ranks.specs.Entries.{labels}

@@ -20,7 +20,7 @@ element-copy-out-renumber : tie.Need-element-copy-out-renumber Inv-loop μ-loop
 element-copy-out-renumber c = search needs
 
 renumber-requires : tie.Need-renumber-requires Inv-loop μ-loop
-renumber-requires c κs = 
+renumber-requires c κs =
     let h = c .before .before .before .loop .inv in
     (h .low _ (omega arith) (omega arith), h .table .long)
 

@@ -1,7 +1,6 @@
 -- A slot tied as a code groups it. Assumes nothing.
 use borrow.Author.Needs.{needs}
 use Prim.Native.Nat.{_-_}
-use native.Mathlib.Omega.{arith}
 use Rattle.tables.proofs.StateLoops.{Tying, tie-begun, tie-turn, tie-done}
 use Rattle.tables.proofs.labels.tie.Statement.{statement}
 use Rattle.tables.proofs.labels.tie.Tie as tie

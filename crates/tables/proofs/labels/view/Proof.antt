@@ -30,7 +30,7 @@ element-copy-out-number : tie.Need-element-copy-out-number Inv-loop μ-loop
 element-copy-out-number c = search needs
 
 number-requires : tie.Need-number-requires Inv-loop μ-loop
-number-requires c κs = 
+number-requires c κs =
     let p = c .before .before .before .before .pre in
     (slot-low (p .0) (p .1) (p .2) (p .3) _ (c .before .before .loop-test .taken), c .before .before .before .loop .inv .table .long)
 
@@ -38,7 +38,7 @@ following-requires : tie.Need-following-requires Inv-loop μ-loop
 following-requires c κs = omega arith
 
 put-label-requires : tie.Need-put-label-requires Inv-loop μ-loop
-put-label-requires c κs = 
+put-label-requires c κs =
     let o = c .before .before .before .before .before in
     let p = o .before .pre in
     (omega arith, slot-small (p .0) (p .1) (p .2) (p .3) (o .loop .inv) (c .before .before .before .before .loop-test .taken) (c .before .number .ensures), o .loop .inv .small)
@@ -50,14 +50,14 @@ loop-less : tie.Need-loop-less Inv-loop μ-loop
 loop-less c = search needs
 
 loop-again : tie.Need-loop-again Inv-loop μ-loop
-loop-again c = 
+loop-again c =
     let o = c .before .before .before .before .before .before in
     let p = o .before .pre in
     rw (c .before .following .ensures)
     (slot-turn (p .0) (p .1) (p .2) (p .3) (o .loop .inv) (c .before .before .before .before .before .loop-test .taken) (c .before .before .number .ensures) (c .put-label .ensures))
 
 returns : tie.Need-returns Inv-loop μ-loop
-returns c = 
+returns c =
     let p = c .before .before .pre in
     slot-done (p .0) (p .1) (p .2) (p .3) (c .before .loop .inv) (c .loop-test .left)
 
