@@ -15,3 +15,4 @@ pub mod Memory
 pub mod Holds
 pub mod Entries
 pub mod Promise
+pub mod Yielding

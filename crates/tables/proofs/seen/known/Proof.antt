@@ -38,7 +38,7 @@ same-state-requires : tie.Need-same-state-requires Inv-loop μ-loop
 same-state-requires c κs = search needs
 
 returns : tie.Need-returns Inv-loop μ-loop
-returns c = λ _. (c .before .before .before .loop .i, omega arith, c .before .same-state .ensures .yes (c .if1 .taken))
+returns c = λ _. (c .before .before .before .loop .i, omega arith, c .before .same-state .ensures .holds (c .if1 .taken))
 
 add-i : tie.Need-add-i Inv-loop μ-loop
 add-i c = search needs
