@@ -16,3 +16,4 @@ pub mod Holds
 pub mod Entries
 pub mod Promise
 pub mod Yielding
+pub mod Visiting

@@ -8,7 +8,7 @@ use native.Mathlib.Omega.{arith}
 use native.Mathlib.Decide.{ℕ-discrete}
 use borrow.Author.Tests.{ltb-true, ltb-false}
 use lib.Dec.{ltb}
-use lib.ListN.{length, getD, set, length-set}
+use lib.ListN.{length, getD, set, replicate, length-set, length-replicate, getD-replicate}
 use lib.Seq.{getD-set-same, getD-set-other, ext-getD}
 use Rattle.lists.specs.Pick.{pick}
 use Rattle.lists.specs.Part.{part, place}
@@ -52,8 +52,11 @@ pub stored-map : {W W′ : ℕ → List ℕ → Type 0} {l : List ℕ} → ((j :
 stored-map g h = record { long = h .long; each = λ j i b f. g j _ (h .each j i b f) }
 
 -- where no place is filled
-pub stored-none : (W : ℕ → List ℕ → Type 0) (l : List ℕ) → length l ≡ seen-bytes → ((j : ℕ) → counter l j ≡ 0) → Stored W l
-stored-none W l long none = record { long = long; each = λ j i b f. let z = none j in absurd (omega arith) }
+pub stored-none : (W : ℕ → List ℕ → Type 0) → Stored W (replicate seen-bytes 0)
+stored-none W = record {
+  long = length-replicate {A = ℕ} seen-bytes 0;
+  each = λ j i b f. let z : counter (replicate seen-bytes 0) j ≡ 0 = getD-replicate {A = ℕ} seen-bytes (j * level-bytes) 0 0 (omega arith) in absurd (omega arith);
+}
 
 module _ {W : ℕ → List ℕ → Type 0} {l : List ℕ} (h : Stored W l) (j : ℕ) (below : j < levels) (s : List ℕ) (long : length s ≡ labels) (has : W j s) where
   here : ℕ

@@ -4,14 +4,16 @@ use mathlib.Core.Logic.{_⊎_}
 use mathlib.Core.List.{List}
 use Prim.Native.Nat.{ℕ, zero, suc, _+_, _*_, _≤_, _<_}
 use lib.Dec.{eqb}
-use lib.ListN.{length, getD}
+use lib.ListN.{length, getD, set}
 use Rattle.lists.specs.Pick.{pick}
+use Rattle.lists.specs.Part.{place}
 use Rattle.chains.specs.Limits.{max-settings, max-kids, max-members}
 use Rattle.chains.specs.Labels.{joins}
 use Rattle.chains.specs.State.{dropped, code-on, code-pairs}
-use Rattle.tables.specs.Sets.{Has}
+use Rattle.book.specs.Reading.{kind-in}
+use Rattle.tables.specs.Sets.{members, Has}
 use Rattle.tables.specs.Memory.{Fine, Turned}
-use Rattle.tables.specs.State.{State, Whole, tidied}
+use Rattle.tables.specs.State.{State, Whole, Readable, width-in, based, tidied}
 use Rattle.tables.specs.Seen.{levels, Stored}
 use Rattle.tables.specs.declared.sets.Turn.{Turn}
 use Rattle.tables.specs.declared.gather.Visit.{Visit}
@@ -74,6 +76,10 @@ Gathered k Q s c = (x : ℕ) → Q x → Has s c k x
 abbrev pub OldOr : List ℕ → List ℕ → ℕ → (ℕ → Type 0) → ℕ → ℕ → Type 0
 OldOr s c k Q j x = Has s c j x ⊎ ((j ≡ k) × Q x)
 
+-- what is left once all that has Q was put into kind k's set; for however many kinds the sets were in order
+abbrev pub Gathers : ℕ → (ℕ → Type 0) → (s c s′ c′ : List ℕ) → Turn → Type 0
+Gathers k Q s c s′ c′ r = (n : ℕ) → k < n → Fine n (Has s c) s c → Turned n (OldOr s c k Q) (Gathered k Q s′ c′) s c s′ c′ r
+
 -- the sets are in order, for some number of kinds, of which k is one
 pub record InOrder (k : ℕ) (s c : List ℕ) : Type 0 where
   pub kinds : ℕ
@@ -94,6 +100,26 @@ pub record Request (v : Visit) (l : List ℕ) (j : ℕ) (u kept s c : List ℕ) 
 
 -- and what it leaves
 pub record Reply (v : Visit) (l : List ℕ) (j : ℕ) (u s c kept′ s′ c′ : List ℕ) (r : Turn) : Type 0 where
-  pub turned : (n : ℕ) → v .kind < n → Fine n (Has s c) s c
-      → Turned n (OldOr s c (v .kind) (Yields v l j u)) (Gathered (v .kind) (Yields v l j u) s′ c′) s c s′ c′ r
+  pub turned : Gathers (v .kind) (Yields v l j u) s c s′ c′ r
   pub seen : Stored (Done v l s′ c′) kept′
+
+-- ── a visit made ready, off the production entry at the place at of the book b ──
+-- v with turn j given to a slot, and the codes of that slot's kind, off the sets s with the counts c, put into the lists l
+pub record Opened (b : List ℕ) (at : ℕ) (s c : List ℕ) (v : Visit) (j slot : ℕ) (l : List ℕ) (v′ : Visit) (l′ : List ℕ) : Type 0 where
+  pub slots-now : v′ .slots ≡ set (v .slots) j slot
+  pub widths-now : v′ .widths ≡ set (v .widths) j (width-in b at slot)
+  pub sizes-now : v′ .sizes ≡ set (v .sizes) j (getD c (kind-in b at slot) 0)
+  pub rest : (v′ .target ≡ v .target) × (v′ .width ≡ v .width) × (v′ .kind ≡ v .kind)
+  pub lists-now : l′ ≡ place (j * max-members) (members s c (kind-in b at slot)) l
+
+-- some turn before j has no code to choose
+abbrev pub Barren : Visit → ℕ → Type 0
+Barren v j = (i : ℕ) × (i < j) × (size-of v i ≡ 0)
+
+-- what a visit with n turns asks
+pub record Prepared (b : List ℕ) (at : ℕ) (v : Visit) (n : ℕ) (l s c : List ℕ) : Type 0 where
+  pub readable : Readable b at
+  pub ready : Ready v n
+  pub standing : Standing v n (based b at)
+  pub lists : length l ≡ max-turns * max-members
+  pub order : InOrder (v .kind) s c

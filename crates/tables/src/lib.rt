@@ -2,3 +2,4 @@ mod labels;
 mod seen;
 mod gather;
 mod sets;
+mod visit;
