@@ -17,3 +17,4 @@ pub mod Entries
 pub mod Promise
 pub mod Yielding
 pub mod Visiting
+pub mod Opening

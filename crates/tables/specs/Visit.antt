@@ -11,7 +11,7 @@ use Rattle.chains.specs.Limits.{max-settings, max-kids, max-members}
 use Rattle.chains.specs.Labels.{joins}
 use Rattle.chains.specs.State.{dropped, code-on, code-pairs}
 use Rattle.book.specs.Reading.{kind-in}
-use Rattle.tables.specs.Sets.{members, Has}
+use Rattle.tables.specs.Sets.{members, member, Has}
 use Rattle.tables.specs.Memory.{Fine, Turned}
 use Rattle.tables.specs.State.{State, Whole, Readable, width-in, based, tidied}
 use Rattle.tables.specs.Seen.{levels, Stored}
@@ -111,6 +111,29 @@ pub record Opened (b : List ℕ) (at : ℕ) (s c : List ℕ) (v : Visit) (j slot
   pub sizes-now : v′ .sizes ≡ set (v .sizes) j (getD c (kind-in b at slot) 0)
   pub rest : (v′ .target ≡ v .target) × (v′ .width ≡ v .width) × (v′ .kind ≡ v .kind)
   pub lists-now : l′ ≡ place (j * max-members) (members s c (kind-in b at slot)) l
+
+-- turn i has a slot, with its settings and the codes of its kind
+pub record Taken (b : List ℕ) (at : ℕ) (s c : List ℕ) (v : Visit) (l : List ℕ) (i slot : ℕ) : Type 0 where
+  pub slot-is : slot-of v i ≡ slot
+  pub width-is : width-of v i ≡ width-in b at slot
+  pub size-is : size-of v i ≡ getD c (kind-in b at slot) 0
+  pub few : size-of v i ≤ max-members
+  pub codes-are : (r : ℕ) → r < size-of v i → code-of l i r ≡ member s (kind-in b at slot) r
+
+-- there are places for all turns
+pub record Sized (v : Visit) (l : List ℕ) : Type 0 where
+  pub slots : length (v .slots) ≡ max-turns
+  pub widths : length (v .widths) ≡ max-turns
+  pub sizes : length (v .sizes) ≡ max-turns
+  pub lists : length l ≡ max-turns * max-members
+
+-- the results are seen on slot t, and turn i, for each i below j, has the slot σ i, with the codes of its kind off the sets S i with the counts C i
+pub record Opening (b : List ℕ) (at t : ℕ) (σ : ℕ → ℕ) (S C : ℕ → List ℕ) (v : Visit) (l : List ℕ) (j : ℕ) : Type 0 where
+  pub sized : Sized v l
+  pub target : v .target ≡ t
+  pub width : v .width ≡ width-in b at t
+  pub kind : v .kind ≡ kind-in b at t
+  pub taken : (i : ℕ) → i < j → Taken b at (S i) (C i) v l i (σ i)
 
 -- some turn before j has no code to choose
 abbrev pub Barren : Visit → ℕ → Type 0

@@ -3,3 +3,4 @@ mod seen;
 mod gather;
 mod sets;
 mod visit;
+mod upward;

@@ -1,13 +1,14 @@
 // A visit of a production: made ready turn by turn, then made.
 ghost use mathlib.Core.Path.{_≡_};
 ghost use mathlib.Core.Bool.{true};
-ghost use Prim.Native.Nat.{_*_, _<_, _≤_};
+ghost use mathlib.Core.List.{List};
+ghost use Prim.Native.Nat.{ℕ, _*_, _<_, _≤_};
 ghost use lib.ListN.{length};
 ghost use Rattle.chains.specs.Limits.{max-members};
 ghost use Rattle.book.specs.Reading.{kind-in};
 ghost use Rattle.tables.specs.Memory.{Placed};
 ghost use Rattle.tables.specs.State.{based};
-ghost use Rattle.tables.specs.Visit.{max-turns, Yields, Gathers, Opened, Barren, Prepared};
+ghost use Rattle.tables.specs.Visit.{max-turns, Yields, Gathers, Opening, Opened, Barren, Prepared};
 
 use super::gather::SLOTS;
 use super::gather::Visit;
@@ -29,6 +30,20 @@ fn wide(x: u8) -> usize
     ensures { λ r. ⌜ (r ≡ x) × (r < 256) ⌝ }
 {
     x as usize
+}
+
+// No turn yet, and the results seen on a slot.
+pub fn looking_at(book: &[u8], at: usize, slot: u8) -> Visit
+    ensures { λ r. ⌜ ((S C : ℕ → List ℕ) (σ : ℕ → ℕ) (l : List ℕ) → length l ≡ max-turns * max-members → Opening (now (book .entry)) at slot σ S C r l 0) ⌝ }
+{
+    Visit {
+        slots: [0; SLOTS],
+        widths: [0; SLOTS],
+        sizes: [0; SLOTS],
+        target: slot,
+        width: width(book, at, slot),
+        kind: book::kind_in(book, at, slot),
+    }
 }
 
 // Turn j given to a slot, with the codes of its kind as they stand now.
