@@ -1,6 +1,6 @@
 -- Gathering: the loop over a turn's codes, and the ways out of a call.
 use mathlib.Core.Path.{_≡_, refl, sym, ap, _∙_, subst}
-use mathlib.Core.Logic.{inl, inr, ⊎-elim}
+use mathlib.Core.Logic.{inl, inr, _↔_, ⊎-elim}
 use mathlib.Core.Bool.{Bool, true, false}
 use mathlib.Core.List.{List}
 use Prim.Native.Nat.{ℕ, suc, _+_, _-_, _≤_, _<_}
@@ -11,7 +11,7 @@ use Rattle.ranks.specs.Entries.{labels}
 use Rattle.tables.specs.Sets.{Has, Over}
 use Rattle.tables.specs.Memory.{Put, Fine, Kept, Turned}
 use Rattle.tables.specs.Seen.{Found, remembered, Stored}
-use Rattle.tables.specs.Visit.{size-of, code-of, chosen, Yields, Gathered, OldOr, InOrder, Done, Request, Reply}
+use Rattle.tables.specs.Visit.{size-of, code-of, chosen, Yields, Gathered, OldOr, Gathers, InOrder, Done, Request, Reply}
 use Rattle.tables.specs.declared.sets.Turn.{Turn}
 use Rattle.tables.specs.declared.sets.Turn.the-variants.{Still, Added, Full}
 use Rattle.tables.specs.declared.gather.Visit.{Visit}
@@ -39,6 +39,11 @@ fine-own f = record { there = f .there; here = f .here; few = f .few; rising = f
 -- what is gathered stays
 pub gathered-stays : {n k : ℕ} {Q : ℕ → Type 0} {s c s′ c′ : List ℕ} → k < n → Kept n s c s′ c′ → Gathered k Q s c → Gathered k Q s′ c′
 gathered-stays {k = k} h u g x q = u .stays k x h (g x q)
+
+-- the same things gathered, otherwise described
+pub gathers-map : {k : ℕ} {Q Q′ : ℕ → Type 0} {s c s′ c′ : List ℕ} {r : Turn} → ((x : ℕ) → Q x ↔ Q′ x) → Gathers k Q s c s′ c′ r → Gathers k Q′ s c s′ c′ r
+gathers-map {r = r} e g n h f =
+    turned-map r (λ d x q. d x (e x .1 q)) (turned-widen (λ k x b o. ⊎-elim inl (λ (a, q). inr (a, e x .0 q)) o) r (g n h f))
 
 -- where some turn is left
 pub one-less : (j : ℕ) → (j ≡ 0 → ⊥) → j ≡ suc (j - 1)

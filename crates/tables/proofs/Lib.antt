@@ -18,3 +18,4 @@ pub mod Promise
 pub mod Yielding
 pub mod Visiting
 pub mod Opening
+pub mod Planning
