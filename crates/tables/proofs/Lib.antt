@@ -19,3 +19,5 @@ pub mod Yielding
 pub mod Visiting
 pub mod Opening
 pub mod Planning
+pub mod Sweeping
+pub mod UpwardVisit

@@ -5,3 +5,5 @@ pub mod State
 pub mod Seen
 pub mod Visit
 pub mod Memory
+pub mod Sweep
+pub mod Upward
