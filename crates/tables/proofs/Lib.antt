@@ -21,3 +21,4 @@ pub mod Opening
 pub mod Planning
 pub mod Sweeping
 pub mod UpwardVisit
+pub mod UpwardSweep

@@ -8,12 +8,20 @@ use native.Mathlib.Numerals.{add-one}
 use native.Mathlib.Omega.{arith}
 use lib.ListN.{getD}
 use Rattle.lists.proofs.Order.{by-order}
-use Rattle.tables.specs.Sets.{members, Has}
-use Rattle.tables.specs.Memory.{Fine, Kept}
+use Rattle.tables.specs.Sets.{Has}
+use Rattle.tables.specs.Memory.{Fine, Kept, Turned}
 use Rattle.tables.specs.Visit.{Gathered}
-use Rattle.tables.specs.Sweep.{Step, Since, Served, total, Visited, Marked}
+use Rattle.tables.specs.Sweep.{Since, Served, total, Visited, Marked}
+use Rattle.tables.specs.declared.sets.Turn.{Turn}
+use Rattle.tables.specs.declared.sets.Turn.the-variants.{Still, Added, Full}
 use Rattle.tables.proofs.Memory.{kept-refl, kept-trans, equal-counts}
 use Rattle.tables.proofs.Gathering.{fine-own}
+
+-- where no set is over-full, what a turn was to bring about holds
+pub turned-done : {n : ℕ} {P : ℕ → ℕ → Type 0} {D : Type 0} {s c s′ c′ : List ℕ} (r : Turn) → (r ≡ Full → ⊥) → Turned n P D s c s′ c′ r → D
+turned-done Still h u = u .case .2
+turned-done Added h u = u .case .1
+turned-done Full h u = absurd (h refl)
 
 -- ---- sums of counts
 pub total-none : (c : List ℕ) (watch : ℕ → ℕ) → total c watch 0 ≡ 0

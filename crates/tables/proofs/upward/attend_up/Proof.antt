@@ -1,58 +1,64 @@
+-- A production's turn in a sweep of the upward pass. Assumes nothing.
+use mathlib.Core.Path.{refl}
+use Rattle.tables.proofs.Gathering.{fine-own}
+use Rattle.tables.proofs.StateBase.{few-kids}
+use Rattle.tables.proofs.UpwardSweep.{kid-counted, up-spared, up-attended}
+use native.Mathlib.Omega.{arith}
 use borrow.Author.Needs.{needs}
 use Rattle.tables.proofs.upward.attend_up.Statement.{statement}
 use Rattle.tables.proofs.upward.attend_up.Tie as tie
-use Rattle.tables.proofs.upward.attend_up.Reads as reads
-use Rattle.tables.proofs.upward.attend_up.Lts as lts
-use Rattle.tables.proofs.upward.visit_up.Reads as visit-up-reads
-use Rattle.tables.proofs.upward.watched_up.Reads as watched-up-reads
 
--- src/upward.rt:92:9
 watched-up-requires : tie.Need-watched-up-requires
-watched-up-requires c κs = ?
+watched-up-requires c κs =
+    let (a, l, e, long, f, old) = c .before .before .before .before .before .pre in
+    rw e (few-kids a _ l, kid-counted a _ l f)
 
--- src/upward.rt:93:8
 mul-if1 : tie.Need-mul-if1
-mul-if1 c = search needs
+mul-if1 c =
+    let q = c .before .before .before .before .before .before .pre in
+    omega (arith, q .0 .few-prods, q .1)
 
--- src/upward.rt:93:8
 slice-read-if1 : tie.Need-slice-read-if1
-slice-read-if1 c = search needs
+slice-read-if1 c =
+    let q = c .before .before .before .before .before .before .before .pre in
+    omega (arith, q .0 .few-prods, q .1, q .3)
 
--- src/upward.rt:94:9
 same-length : tie.Need-same-length
 same-length c = search needs
 
--- src/upward.rt:94:9
 returns : tie.Need-returns
-returns c = ?
+returns c =
+    let (a, l, e, long, f, old) = c .before .before .before .before .before .before .before .before .pre in
+    up-spared a _ l (c .before .before .before .before .before .before .before .before .args .marks .now) f old (rw e at (c .before .before .watched-up .ensures)) (c .if1 .taken)
 
--- src/upward.rt:96:5
 mul-marks : tie.Need-mul-marks
-mul-marks c = search needs
+mul-marks c =
+    let q = c .before .before .before .before .before .before .before .before .pre in
+    omega (arith, q .0 .few-prods, q .1)
 
--- src/upward.rt:96:5
 slice-write-marks : tie.Need-slice-write-marks
-slice-write-marks c = search needs
+slice-write-marks c =
+    let q = c .before .before .before .before .before .before .before .before .pre in
+    omega (arith, q .0 .few-prods, q .1, q .3)
 
--- src/upward.rt:97:5
 visit-up-requires : tie.Need-visit-up-requires
-visit-up-requires c κs = search needs
+visit-up-requires c κs =
+    let (a, l, e, long, f, old) = c .before .before .before .before .before .before .before .before .before .before .pre in
+    (a, (c .before .before .before .before .before .before .before .before .before .before .args .p, l, e), fine-own f)
 
--- src/upward.rt:84:1
 same-length-2 : tie.Need-same-length-2
 same-length-2 c = search needs
 
--- src/upward.rt:84:1
 same-length-3 : tie.Need-same-length-3
 same-length-3 c = search needs
 
--- src/upward.rt:84:1
 same-length-4 : tie.Need-same-length-4
 same-length-4 c = search needs
 
--- src/upward.rt:84:1
 returns-2 : tie.Need-returns-2
-returns-2 c = ?
+returns-2 c =
+    let (a, l, e, long, f, old) = c .before .before .before .before .before .before .before .before .before .before .before .before .before .before .before .pre in
+    up-attended a _ l (c .before .before .before .before .before .before .before .before .before .before .before .before .before .before .before .args .marks .now) f old (rw e at (c .before .before .before .before .before .before .before .before .before .watched-up .ensures)) long refl (c .before .before .before .before .visit-up .ensures _ l e)
 
 pub attend-up-spec : {M : Type 1} → statement M
 attend-up-spec =
