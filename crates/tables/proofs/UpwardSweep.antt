@@ -19,13 +19,13 @@ use Rattle.tables.specs.Sets.{Has}
 use Rattle.tables.specs.Memory.{Fine, Kept, Turned}
 use Rattle.tables.specs.Visit.{Gathered, OldOr}
 use Rattle.tables.specs.Sweep.{total, Served, Marked, Attended}
-use Rattle.tables.specs.Upward.{up-step, up-into, up-watch, UpServed, UpMarks}
+use Rattle.tables.specs.Upward.{up-step, up-into, up-watch, UpServed, UpMarks, UpSwept, UpClosed}
 use Rattle.tables.specs.declared.sets.Turn.{Turn}
 use Rattle.tables.specs.declared.sets.Turn.the-variants.{Still, Added, Full}
-use Rattle.tables.proofs.Memory.{kept-refl, turned-map}
+use Rattle.tables.proofs.Memory.{kept-refl, turned-map, Lasts}
 use Rattle.tables.proofs.Gathering.{turned-widen}
 use Rattle.tables.proofs.StateBase.{few-kids}
-use Rattle.tables.proofs.Sweeping.{total-agree, Watches, since-now, marked-later, mark-visit, marked-served, turned-done}
+use Rattle.tables.proofs.Sweeping.{total-agree, Watches, since-now, since-later, since-earlier, since-closed, marked-later, mark-visit, marked-served, turned-done}
 use Rattle.tables.proofs.UpwardVisit.{kind-known}
 
 -- codes of some kinds, in other sets that have them
@@ -90,3 +90,25 @@ module _ {b : List ℕ} (a : Accepted b) (p : ℕ) (l : p < prods b) where
             rw (z, m, getD-set-same marks p mark 0 (omega (arith, a .few-prods)))
             (mark-visit (λ j k. a .lawful .left-in p l) (u .kept) watched d)
         go q h d (no z) = rw (m, getD-set-other marks p q mark 0 z) (marked-later (λ j k. a .lawful .left-in q h) (u .kept) (old q h))
+
+-- ---- the sweep
+-- what the turn of production p is to bring about, from s₀, c₀ on
+abbrev pub UpTurn : List ℕ → (s₀ c₀ s c : List ℕ) → ℕ → Type 0
+UpTurn b s₀ c₀ s c p = p < prods b → UpServed b p s₀ c₀ s c
+
+module _ {b : List ℕ} (a : Accepted b) where
+  pub up-lasts : (s₀ c₀ : List ℕ) → Lasts (kinds b) (UpTurn b s₀ c₀)
+  up-lasts s₀ c₀ s c s′ c′ p u d l j h = since-later (a .lawful .left-in p l) (d l j h) u
+
+  pub up-serves : {s₀ c₀ s c s′ c′ : List ℕ} {p : ℕ} → Kept (kinds b) s₀ c₀ s c → UpServed b p s c s′ c′ → UpTurn b s₀ c₀ s′ c′ p
+  up-serves u d l j h = since-earlier u (d j h)
+
+  -- ---- sweeps until one adds nothing
+  pub up-unmarked : (marks s c : List ℕ) → ((p : ℕ) → getD marks p 0 ≡ 0) → UpMarks b marks s c
+  up-unmarked marks s c z p l = inl (z p)
+
+  -- THEOREM: a sweep that adds nothing leaves the sets closed under the upward step
+  pub up-closed : {P : ℕ → ℕ → Type 0} {s c s′ c′ : List ℕ} → Fine (kinds b) P s′ c′ → s′ ≡ s → c′ ≡ c → UpSwept b s c s′ c′ → UpClosed b s′ c′
+  up-closed {s = s} {c} {s′} {c′} f e q d p x l o =
+      since-closed f (up-watch b p) (length (grammar b .kids p)) (up-known a p l) (up-watches b p 0) (ap (λ (u : List ℕ). total u (up-watch b p) (length (grammar b .kids p))) (sym q))
+      (d p l 0 (omega arith)) x o

@@ -1,10 +1,11 @@
 -- The sweeps of a pass, for any step: what the productions that were visited have put in, and the marks by which a visit is spared.
 use mathlib.Core.Path.{_≡_}
 use mathlib.Core.Logic.{_⊎_}
+use mathlib.Core.Bool.{Bool, true, false}
 use mathlib.Core.List.{List}
 use Prim.Native.Nat.{ℕ, zero, suc, _+_, _<_}
 use lib.ListN.{getD}
-use Rattle.tables.specs.Sets.{Has}
+use Rattle.tables.specs.Sets.{Has, Over, Holds}
 use Rattle.tables.specs.Memory.{Fine, Kept, Turned}
 use Rattle.tables.specs.Visit.{Gathered}
 use Rattle.tables.specs.declared.sets.Turn.{Turn}
@@ -48,3 +49,15 @@ Marked n m step into watch w mark s c = (mark ≡ 0) ⊎ Visited n m step into w
 pub record Attended (n : ℕ) (P : ℕ → ℕ → Type 0) (D : Type 0) (marks : List ℕ → List ℕ → Type 0) (s c s′ c′ : List ℕ) (r : Turn) : Type 0 where
   pub turned : Turned n P D s c s′ c′ r
   pub marked : (r ≡ Full → ⊥) → marks s′ c′
+
+-- what sweeps leave once one adds nothing, or some set is over-full: all is in order, and C holds
+pub record Swept (n : ℕ) (P : ℕ → ℕ → Type 0) (C : Type 0) (s c s′ c′ : List ℕ) (r : Bool) : Type 0 where
+  pub fine : Fine n P s′ c′
+  pub kept : Kept n s c s′ c′
+  pub closed : r ≡ true → C
+  pub over : r ≡ false → Over n P
+
+-- what a pass leaves: the sets hold exactly what has P, or there are 65
+pub record Outcome (n : ℕ) (P : ℕ → ℕ → Type 0) (s c s′ c′ : List ℕ) (r : Bool) : Type 0 where
+  pub holds : r ≡ true → Holds n P s c s′ c′
+  pub over : r ≡ false → Over n P

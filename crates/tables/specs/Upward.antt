@@ -30,3 +30,7 @@ UpMarks b marks s c = (p : ℕ) → p < prods b
 -- every production's results are in
 abbrev pub UpClosed : (b s c : List ℕ) → Type 0
 UpClosed b s c = (p x : ℕ) → p < prods b → StepUp (grammar b) (Has s c) p x → Has s c (grammar b .left p) x
+
+-- every production was served since s₀, c₀
+abbrev pub UpSwept : List ℕ → (s₀ c₀ s c : List ℕ) → Type 0
+UpSwept b s₀ c₀ s c = (p : ℕ) → p < prods b → UpServed b p s₀ c₀ s c

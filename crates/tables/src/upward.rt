@@ -1,6 +1,5 @@
 // The upward pass: the plausible groupings of every kind.
 ghost use mathlib.Core.Path.{_≡_};
-ghost use mathlib.Core.Bool.{true, false};
 ghost use Prim.Native.Nat.{ℕ, suc, _*_, _<_, _≤_};
 ghost use lib.ListN.{length, getD};
 ghost use Rattle.chains.specs.Limits.{max-kids, max-members, max-prods};
@@ -9,21 +8,33 @@ ghost use Rattle.chains.specs.Plausible.{Plausible};
 ghost use Rattle.book.specs.Format.{arity-at, entry, kinds, prods, grammar};
 ghost use Rattle.book.specs.Reading.{kind-in, kid-at, Index};
 ghost use Rattle.book.proofs.Accepted.{Accepted};
-ghost use Rattle.tables.specs.Sets.{Has, Over, Holds};
+ghost use Rattle.tables.specs.Sets.{Has};
 ghost use Rattle.tables.specs.Memory.{Placed, Fine, Turned};
 ghost use Rattle.tables.specs.Visit.{max-turns, Gathered, OldOr, Opening};
-ghost use Rattle.tables.specs.Sweep.{total, Attended};
-ghost use Rattle.tables.specs.Upward.{UpServed, UpMarks};
+ghost use Rattle.tables.specs.Sweep.{total, Attended, Swept, Outcome};
+ghost use Rattle.tables.specs.Upward.{UpServed, UpMarks, UpSwept, UpClosed};
 
 use super::gather::Visit;
+use super::sets::MAX_MEMBERS;
 use super::sets::Turn;
+use super::sets::clear32;
+use super::sets::clear8;
 use super::visit::LIST_PLACES;
 use super::visit::looking_at;
 use super::visit::open_turn;
 use super::visit::visit;
 
+// A mark for each production.
+const MARKS: usize = 64;
+
 fn wide(x: u8) -> usize
     ensures { λ r. ⌜ (r ≡ x) × (r < 256) ⌝ }
+{
+    x as usize
+}
+
+fn span(x: u16) -> usize
+    ensures { λ r. ⌜ (r ≡ x) × (r < 65536) ⌝ }
 {
     x as usize
 }
@@ -95,4 +106,64 @@ fn attend_up(book: &[u8], at: usize, p: usize, marks: &mut [u16], sets: &mut [u3
     }
     marks[p] = mark;
     visit_up(book, at, sets, counts)
+}
+
+// All productions in order.
+fn sweep_up(book: &[u8], places: &[usize], marks: &mut [u16], sets: &mut [u32], counts: &mut [u8]) -> Turn
+    requires { ⌜ Accepted (now book) × Index (now book) (now places) × (length (now marks) ≡ max-prods)
+        × Fine (kinds (now book)) (Plausible (grammar (now book))) (now sets) (now counts) × UpMarks (now book) (now marks) (now sets) (now counts) ⌝ }
+    ensures { λ r. ⌜ Attended (kinds (now (book .entry))) (Plausible (grammar (now (book .entry))))
+        (UpSwept (now (book .entry)) (now (sets .entry)) (now (counts .entry)) (now (sets .exit)) (now (counts .exit)))
+        (UpMarks (now (book .entry)) (now (marks .exit)))
+        (now (sets .entry)) (now (counts .entry)) (now (sets .exit)) (now (counts .exit)) r ⌝ }
+{
+    let n = span(book::productions(book));
+    let mut added = false;
+    let mut p = 0;
+    while p < n {
+        match attend_up(book, places[p], p, marks, sets, counts) {
+            Turn::Still => {}
+            Turn::Added => {
+                added = true;
+            }
+            Turn::Full => {
+                return Turn::Full;
+            }
+        }
+        p += 1;
+    }
+    if added { Turn::Added } else { Turn::Still }
+}
+
+// Sweeps until one adds nothing; false where some set would be over-full.
+fn close_up(book: &[u8], places: &[usize], sets: &mut [u32], counts: &mut [u8]) -> bool
+    requires { ⌜ Accepted (now book) × Index (now book) (now places) × Fine (kinds (now book)) (Plausible (grammar (now book))) (now sets) (now counts) ⌝ }
+    ensures { λ r. ⌜ Swept (kinds (now (book .entry))) (Plausible (grammar (now (book .entry))))
+        (UpClosed (now (book .entry)) (now (sets .exit)) (now (counts .exit)))
+        (now (sets .entry)) (now (counts .entry)) (now (sets .exit)) (now (counts .exit)) r ⌝ }
+{
+    let mut marks = [0u16; MARKS];
+    loop {
+        match sweep_up(book, places, &mut marks, sets, counts) {
+            Turn::Still => {
+                return true;
+            }
+            Turn::Added => {}
+            Turn::Full => {
+                return false;
+            }
+        }
+    }
+}
+
+// The plausible groupings of every kind; false where some kind has over 64 of them. Whatever stood in the sets before decides nothing.
+pub fn upward(book: &[u8], places: &[usize], sets: &mut [u32], counts: &mut [u8]) -> bool
+    requires { ⌜ Accepted (now book) × Index (now book) (now places) × (kinds (now book) * max-members ≤ length (now sets)) × (kinds (now book) ≤ length (now counts)) ⌝ }
+    ensures { λ r. ⌜ Outcome (kinds (now (book .entry))) (Plausible (grammar (now (book .entry))))
+        (now (sets .entry)) (now (counts .entry)) (now (sets .exit)) (now (counts .exit)) r ⌝ }
+{
+    let n = span(book::kinds(book));
+    clear32(sets, n * MAX_MEMBERS);
+    clear8(counts, n);
+    close_up(book, places, sets, counts)
 }
