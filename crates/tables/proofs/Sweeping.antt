@@ -2,7 +2,7 @@
 -- hold on.
 use mathlib.Core.Path.{_≡_, refl, sym, ap, ap₂, _∙_, subst}
 use mathlib.Core.Logic.{_⊎_, inl, inr}
-use mathlib.Core.Bool.{Bool, true, false}
+use mathlib.Core.Bool.{Bool, true, false, true≢false}
 use mathlib.Core.List.{List, List·Memᴰ}
 use Prim.Native.Nat.{ℕ, zero, suc, _+_, _≤_, _<_}
 use native.Mathlib.Numerals.{add-one}
@@ -11,9 +11,9 @@ use lib.ListN.{length, getD}
 use Rattle.lists.proofs.Order.{by-order}
 use Rattle.chains.specs.Limits.{max-prods}
 use Rattle.tables.specs.Sets.{Has}
-use Rattle.tables.specs.Memory.{Fine, Kept, Turned}
+use Rattle.tables.specs.Memory.{Fine, Kept, Turned, room}
 use Rattle.tables.specs.Visit.{Gathered}
-use Rattle.tables.specs.Sweep.{Since, Served, total, Visited, Marked, Attended}
+use Rattle.tables.specs.Sweep.{Since, Served, total, Visited, Marked, Attended, Swept}
 use Rattle.tables.specs.declared.sets.Turn.{Turn}
 use Rattle.tables.specs.declared.sets.Turn.the-variants.{Still, Added, Full}
 use Rattle.tables.proofs.Memory.{kept-refl, kept-trans, equal-counts, turned-map, Lasts, Going, set-out, on-still, on-added, on-full, end-added, end-still}
@@ -164,3 +164,46 @@ module _ {n : ℕ} {P : ℕ → ℕ → Type 0} {D : List ℕ → List ℕ → �
 pub sweep-begun : {n : ℕ} {P : ℕ → ℕ → Type 0} (D : List ℕ → List ℕ → ℕ → Type 0) (Marks : List ℕ → List ℕ → List ℕ → Type 0) (marks : List ℕ) {s c : List ℕ} → Fine n P s c
     → Marks marks s c → length marks ≡ max-prods → OnSweep n P D Marks s c marks s c false 0
 sweep-begun {n} {P} D Marks marks {s} {c} f m l = record { going = set-out n P D s c f; marked = m; long = l }
+
+-- ---- sweeps until one adds nothing
+pub record Closing (n : ℕ) (P : ℕ → ℕ → Type 0) (Marks : List ℕ → List ℕ → List ℕ → Type 0) (s₀ c₀ marks s c : List ℕ) : Type 0 where
+  pub fine : Fine n P s c
+  pub kept : Kept n s₀ c₀ s c
+  pub marked : Marks marks s c
+  pub long : length marks ≡ max-prods
+
+pub close-begun : {n : ℕ} {P : ℕ → ℕ → Type 0} (Marks : List ℕ → List ℕ → List ℕ → Type 0) (marks : List ℕ) {s c : List ℕ} → Fine n P s c → Marks marks s c → length marks ≡ max-prods
+    → Closing n P Marks s c marks s c
+close-begun {n} Marks marks {s} {c} f m l = record { fine = f; kept = kept-refl n s c; marked = m; long = l }
+
+module _ {n : ℕ} {P : ℕ → ℕ → Type 0} {Marks : List ℕ → List ℕ → List ℕ → Type 0} {s₀ c₀ marks s c : List ℕ} (h : Closing n P Marks s₀ c₀ marks s c)
+    {E : Type 0} (marks′ : List ℕ) {s′ c′ : List ℕ} {r : Turn} (u : Attended n P E (Marks marks′) s c s′ c′ r) where
+  as-told : (q : Turn) → r ≡ q → Attended n P E (Marks marks′) s c s′ c′ q
+  as-told q e = subst (Attended n P E (Marks marks′) s c s′ c′) e u
+
+  pub close-less : r ≡ Added → room c′ < room c
+  close-less e = as-told Added e .turned .case .0
+
+  pub close-added : length marks′ ≡ length marks → r ≡ Added → Closing n P Marks s₀ c₀ marks′ s′ c′
+  close-added same e = record {
+    fine = u .turned .fine;
+    kept = kept-trans (h .kept) (u .turned .kept);
+    marked = as-told Added e .marked (λ z. let y : _≡_ {A = ℕ} 0 1 = cc in omega arith);
+    long = same ∙ h .long;
+  }
+
+  pub close-still : {C : Type 0} → (Fine n P s′ c′ → s′ ≡ s → c′ ≡ c → E → C) → r ≡ Still → Swept n P C s₀ c₀ s′ c′ true
+  close-still g e = record {
+    fine = u .turned .fine;
+    kept = kept-trans (h .kept) (u .turned .kept);
+    closed = λ z. let (a, b, d) = as-told Still e .turned .case in g (u .turned .fine) a b d;
+    over = λ z. absurd (true≢false z);
+  }
+
+  pub close-full : {C : Type 0} → r ≡ Full → Swept n P C s₀ c₀ s′ c′ false
+  close-full e = record {
+    fine = u .turned .fine;
+    kept = kept-trans (h .kept) (u .turned .kept);
+    closed = λ z. absurd (true≢false (sym z));
+    over = λ z. as-told Full e .turned .case;
+  }

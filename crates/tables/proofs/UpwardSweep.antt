@@ -1,28 +1,30 @@
 -- A production's turn in a sweep of the upward pass.
 use mathlib.Core.Path.{_≡_, refl, sym, ap, ap₂, _∙_, subst}
 use mathlib.Core.Logic.{_⊎_, inl, inr, ⊎-elim}
+use mathlib.Core.Bool.{Bool}
 use mathlib.Core.List.{List, [], _∷_}
-use Prim.Native.Nat.{ℕ, zero, suc, _≤_, _<_}
+use Prim.Native.Nat.{ℕ, suc, _*_, _≤_, _<_}
 use native.Mathlib.Omega.{arith}
 use native.Mathlib.Decide.{ℕ-discrete}
-use lib.ListN.{length, getD, set}
+use lib.ListN.{length, getD, set, replicate, getD-replicate}
 use lib.Seq.{getD-set-same, getD-set-other}
-use Rattle.chains.specs.Limits.{max-prods}
+use Rattle.chains.specs.Limits.{max-prods, max-members}
 use Rattle.chains.specs.Grouping.{Members}
 use Rattle.chains.specs.Plausible.{Plausible}
 use Rattle.chains.specs.Steps.{StepUp}
-use Rattle.chains.proofs.Plausible.{plausible-sound}
+use Rattle.chains.proofs.Plausible.{plausible-sound, plausible-complete}
 use Rattle.book.specs.Format.{arity-at, entry, kinds, prods, grammar}
 use Rattle.book.specs.Reading.{kid-at}
 use Rattle.book.proofs.Accepted.{Accepted, arity-read, kid-read}
 use Rattle.tables.specs.Sets.{Has}
-use Rattle.tables.specs.Memory.{Fine, Kept, Turned}
+use Rattle.tables.specs.Memory.{Fine, Kept, Turned, cleared}
 use Rattle.tables.specs.Visit.{Gathered, OldOr}
-use Rattle.tables.specs.Sweep.{total, Served, Marked, Attended}
+use Rattle.tables.specs.Sweep.{total, Marked, Attended, Swept, Outcome}
 use Rattle.tables.specs.Upward.{up-step, up-into, up-watch, UpServed, UpMarks, UpSwept, UpClosed}
 use Rattle.tables.specs.declared.sets.Turn.{Turn}
 use Rattle.tables.specs.declared.sets.Turn.the-variants.{Still, Added, Full}
 use Rattle.tables.proofs.Memory.{kept-refl, turned-map, Lasts}
+use Rattle.tables.proofs.Holds.{fine-holds}
 use Rattle.tables.proofs.Gathering.{turned-widen}
 use Rattle.tables.proofs.StateBase.{few-kids}
 use Rattle.tables.proofs.Sweeping.{total-agree, Watches, since-now, since-later, since-earlier, since-closed, marked-later, mark-visit, marked-served, turned-done}
@@ -104,11 +106,21 @@ module _ {b : List ℕ} (a : Accepted b) where
   up-serves u d l j h = since-earlier u (d j h)
 
   -- ---- sweeps until one adds nothing
-  pub up-unmarked : (marks s c : List ℕ) → ((p : ℕ) → getD marks p 0 ≡ 0) → UpMarks b marks s c
-  up-unmarked marks s c z p l = inl (z p)
+  pub up-unmarked : (s c : List ℕ) → UpMarks b (replicate max-prods 0) s c
+  up-unmarked s c p l = inl (getD-replicate {A = ℕ} max-prods p 0 0 (omega (arith, a .few-prods)))
 
   -- THEOREM: a sweep that adds nothing leaves the sets closed under the upward step
   pub up-closed : {P : ℕ → ℕ → Type 0} {s c s′ c′ : List ℕ} → Fine (kinds b) P s′ c′ → s′ ≡ s → c′ ≡ c → UpSwept b s c s′ c′ → UpClosed b s′ c′
   up-closed {s = s} {c} {s′} {c′} f e q d p x l o =
       since-closed f (up-watch b p) (length (grammar b .kids p)) (up-known a p l) (up-watches b p 0) (ap (λ (u : List ℕ). total u (up-watch b p) (length (grammar b .kids p))) (sym q))
       (d p l 0 (omega arith)) x o
+
+-- ---- the pass
+module _ {b : List ℕ} (a : Accepted b) {s₀ c₀ : List ℕ} (there : kinds b * max-members ≤ length s₀) (here : kinds b ≤ length c₀) where
+  -- THEOREM: sweeps from cleared sets come to exactly the plausible groupings, or to a 65th
+  pub up-outcome : {s c : List ℕ} {r : Bool} → Swept (kinds b) (Plausible (grammar b)) (UpClosed b s c) (cleared (kinds b * max-members) s₀) (cleared (kinds b) c₀) s c r
+      → Outcome (kinds b) (Plausible (grammar b)) s₀ c₀ s c r
+  up-outcome {s} {c} w = record {
+    holds = λ e. fine-holds there here (w .kept) (w .fine) (λ k x h. plausible-complete (grammar b) (a .lawful) (Has s c) (λ p d l. w .closed e p d l) k x);
+    over = w .over;
+  }
