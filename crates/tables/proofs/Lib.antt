@@ -22,3 +22,4 @@ pub mod Planning
 pub mod Sweeping
 pub mod UpwardVisit
 pub mod UpwardSweep
+pub mod DownwardVisit

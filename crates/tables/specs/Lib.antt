@@ -7,3 +7,4 @@ pub mod Visit
 pub mod Memory
 pub mod Sweep
 pub mod Upward
+pub mod Downward

@@ -4,3 +4,4 @@ mod gather;
 mod sets;
 mod visit;
 mod upward;
+mod downward;
