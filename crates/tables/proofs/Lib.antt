@@ -23,3 +23,4 @@ pub mod Sweeping
 pub mod UpwardVisit
 pub mod UpwardSweep
 pub mod DownwardVisit
+pub mod DownwardSweep

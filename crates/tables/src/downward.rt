@@ -26,6 +26,21 @@ use super::visit::looking_at;
 use super::visit::open_turn;
 use super::visit::visit;
 
+// A mark for each production.
+const MARKS: usize = 64;
+
+fn span(x: u16) -> usize
+    ensures { λ r. ⌜ (r ≡ x) × (r < 65536) ⌝ }
+{
+    x as usize
+}
+
+fn word(x: u8) -> u16
+    ensures { λ r. ⌜ (r ≡ x) × (r < 256) ⌝ }
+{
+    x as u16
+}
+
 fn wide(x: u8) -> usize
     ensures { λ r. ⌜ (r ≡ x) × (r < 256) ⌝ }
 {
@@ -92,4 +107,50 @@ fn prepare_down(
         j += 1;
     }
     v
+}
+
+// All results of the production whose entry stands at `at`, over the sets as they stand, put into the set of the child in slot t.
+fn visit_down(book: &[u8], at: usize, t: u8, plausible: &[u32], counts: &[u8], feasible: &mut [u32], tally: &mut [u8]) -> Turn
+    requires { ⌜ Accepted (now book) × ((p : ℕ) × (j : ℕ) × (p < prods (now book)) × (at ≡ entry (now book) p) × (j < length (grammar (now book) .kids p)) × (t ≡ suc j))
+        × Fine (kinds (now book)) (Plausible (grammar (now book))) (now plausible) (now counts)
+        × Fine (kinds (now book)) (Has (now feasible) (now tally)) (now feasible) (now tally) ⌝ }
+    ensures { λ r. ⌜ ((p j : ℕ) → p < prods (now (book .entry)) → at ≡ entry (now (book .entry)) p → j < length (grammar (now (book .entry)) .kids p) → t ≡ suc j
+        → Turned (kinds (now (book .entry)))
+            (OldOr (now (feasible .entry)) (now (tally .entry)) (down-into (now (book .entry)) p j)
+                (down-step (now (book .entry)) (now (plausible .entry)) (now (counts .entry)) p j (Has (now (feasible .entry)) (now (tally .entry)))))
+            (Gathered (down-into (now (book .entry)) p j)
+                (down-step (now (book .entry)) (now (plausible .entry)) (now (counts .entry)) p j (Has (now (feasible .entry)) (now (tally .entry)))) (now (feasible .exit)) (now (tally .exit)))
+            (now (feasible .entry)) (now (tally .entry)) (now (feasible .exit)) (now (tally .exit)) r) ⌝ }
+{
+    let mut lists = [0u32; LIST_PLACES];
+    let v = prepare_down(book, at, t, plausible, counts, feasible, tally, &mut lists);
+    visit(book, at, v, wide(book::arity(book, at)) + 1, &lists, feasible, tally)
+}
+
+// A visit for each child.
+fn serve_down(book: &[u8], at: usize, plausible: &[u32], counts: &[u8], feasible: &mut [u32], tally: &mut [u8]) -> Turn
+    requires { ⌜ Accepted (now book) × ((p : ℕ) × (p < prods (now book)) × (at ≡ entry (now book) p))
+        × Fine (kinds (now book)) (Plausible (grammar (now book))) (now plausible) (now counts)
+        × Fine (kinds (now book)) (Feasible (grammar (now book))) (now feasible) (now tally) ⌝ }
+    ensures { λ r. ⌜ ((p : ℕ) → p < prods (now (book .entry)) → at ≡ entry (now (book .entry)) p
+        → Turned (kinds (now (book .entry))) (Feasible (grammar (now (book .entry))))
+            (DownServed (now (book .entry)) (now (plausible .entry)) (now (counts .entry)) p (now (feasible .entry)) (now (tally .entry)) (now (feasible .exit)) (now (tally .exit)))
+            (now (feasible .entry)) (now (tally .entry)) (now (feasible .exit)) (now (tally .exit)) r) ⌝ }
+{
+    let n = book::arity(book, at);
+    let mut added = false;
+    let mut j: u8 = 0;
+    while j < n {
+        match visit_down(book, at, j + 1, plausible, counts, feasible, tally) {
+            Turn::Still => {}
+            Turn::Added => {
+                added = true;
+            }
+            Turn::Full => {
+                return Turn::Full;
+            }
+        }
+        j += 1;
+    }
+    if added { Turn::Added } else { Turn::Still }
 }
