@@ -15,9 +15,3 @@ pub mod Carried
 pub mod StateBase
 pub mod StateWalk
 pub mod StateEntry
-pub mod Members
-pub mod Cleared
-pub mod Memory
-pub mod Holds
-pub mod Entries
-pub mod Promise

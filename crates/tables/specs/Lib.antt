@@ -4,4 +4,3 @@ pub mod Promise
 pub mod Memory
 pub mod Blocks
 pub mod State
-pub mod Memory
