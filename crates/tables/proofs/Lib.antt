@@ -15,3 +15,5 @@ pub mod Carried
 pub mod StateBase
 pub mod StateWalk
 pub mod StateEntry
+pub mod Shapes
+pub mod EntryCounts

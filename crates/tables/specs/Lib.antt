@@ -4,3 +4,4 @@ pub mod Promise
 pub mod Memory
 pub mod Blocks
 pub mod State
+pub mod Fill
