@@ -7,3 +7,4 @@ pub use blocks::occurrences;
 mod sets;
 mod shape;
 mod totals;
+mod fill;

@@ -1,0 +1,80 @@
+-- One entry: the ranks that it holds, and its bytes.
+use mathlib.Core.Path.{_≡_, refl, sym, ap, _∙_, subst}
+use mathlib.Core.List.{List, [], _∷_, _++_, List·Memᴰ, append-nil}
+use Prim.Native.Nat.{ℕ, suc, _+_, _*_, _≤_, _<_}
+use native.Mathlib.Nat.{add-zero}
+use native.Mathlib.Omega.{arith}
+use borrow.Author.Count.{below-more}
+use lib.ListN.{length, getD, take, drop, set, length-append, length-set, take-append-drop, List·getD-append}
+use lib.Seq.{take-at, getD-append-add, getD-append-seam}
+use Rattle.lists.specs.Part.{part, place}
+use Rattle.lists.proofs.Carry.{placed}
+use Rattle.chains.specs.Limits.{max-kids, max-members}
+use Rattle.chains.specs.State.{code-on}
+use Rattle.ranks.specs.Entries.{labels, none}
+use Rattle.tables.specs.Sets.{member}
+use Rattle.tables.specs.State.{tidied}
+use Rattle.tables.specs.Fill.{kind-of, width-of, InPlace, Listed, RankOn, ChildRank, ChildRanks, DownBytes}
+use Rattle.tables.specs.declared.shape.Shape.{Shape}
+use Rattle.tables.proofs.StateTidy.{tidy-state}
+
+-- ── a rank ──
+module _ {f d : List ℕ} {v : Shape} {x : List ℕ} (h : InPlace f d v x) (t : ℕ) (l : t ≤ v .arity) {k : ℕ} (e : k ≡ kind-of v t) where
+  pub kind-there : k < length d
+  kind-there = rw e (h .placed t l .here)
+
+  module _ {n y : ℕ} (c : n ≡ getD d k 0) (s : y ≡ code-on t (width-of v t) x) where
+    pub rank-there : Listed f d v t x → (k * max-members + n ≤ length f) × List·Memᴰ y (part (k * max-members) n f)
+    rank-there m =
+        let q : n ≡ getD d (kind-of v t) 0 = c ∙ ap (λ (k : ℕ). getD d k 0) e in
+        let p = h .placed t l in
+        (rw (e, q) (omega (arith, p .there, p .few)), rw (s, e, q) m)
+
+    pub rank-is : {r : ℕ} → (r < n) × (member f k r ≡ y) → RankOn f d v t x r
+    rank-is {r} (b, m) = record {
+      below = rw (← e, ← c) b;
+      is = ap (λ (k : ℕ). member f k r) (sym e) ∙ m ∙ s;
+    }
+
+    pub rank-small : {r : ℕ} → r < n → r < 256
+    rank-small b = let p = h .placed t l .few in omega (arith, c, ap (λ (k : ℕ). getD d k 0) e)
+
+-- ── the children's ranks ──
+pub no-child : (f d : List ℕ) {v : Shape} (x : List ℕ) {j n : ℕ} → n ≡ v .arity → n ≤ j → ChildRank f d v x j none
+no-child f d x e l = record { there = λ h. absurd (omega arith); missing = λ h. refl }
+
+pub listed-next : (f d : List ℕ) (v : Shape) (x : List ℕ) (j : ℕ) → Listed f d v (suc j) x → Listed f d v (j + 1) x
+listed-next f d v x j m = let e : j + 1 ≡ suc j = omega arith in subst (λ t. Listed f d v t x) (sym e) m
+
+pub some-child : {f d : List ℕ} {v : Shape} {x : List ℕ} {j r : ℕ} → j < v .arity → RankOn f d v (j + 1) x r → ChildRank f d v x j r
+some-child {f} {d} {v} {x} {j} {r} l h =
+    let e : j + 1 ≡ suc j = omega arith in
+    record { there = λ k. subst (λ t. RankOn f d v t x r) e h; missing = λ k. absurd (omega arith) }
+
+pub no-ranks : (f d : List ℕ) (v : Shape) (x out : List ℕ) (a : ℕ) → ChildRanks f d v x 0 out a out
+no-ranks f d v x out a = record { list = []; many = refl; each = λ j l. absurd (omega arith); held = rw (add-zero, append-nil, take-append-drop); long = refl }
+
+-- one more rank behind those of the first n children
+pub more-ranks : {f d : List ℕ} {v : Shape} {x : List ℕ} {n : ℕ} {out : List ℕ} {a : ℕ} {out′ : List ℕ} → ChildRanks f d v x n out a out′ → a + n < length out
+    → {r : ℕ} → ChildRank f d v x n r → ChildRanks f d v x (n + 1) out a (set out′ (a + n) r)
+more-ranks {f} {d} {v} {x} {n} {out} {a} {out′} h l {r} c = record {
+  list = h .list ++ r ∷ [];
+  many = length-append (h .list) (r ∷ []) ∙ ap (λ (m : ℕ). m + 1) (h .many);
+  each = below-more (λ j. ChildRank f d v x j (getD (h .list ++ r ∷ []) j none)) n
+      (λ j k. rw (List·getD-append (h .list) (r ∷ []) none j (omega (arith, h .many))) (h .each j k))
+      (subst (ChildRank f d v x n) (sym last) c);
+  held = ap (λ (u : List ℕ). set u (a + n) r) (h .held) ∙ ap (λ (m : ℕ). set (place a (h .list) out) (a + m) r) (sym (h .many))
+      ∙ placed out a (h .list) (omega (arith, h .many)) r;
+  long = length-set out′ (a + n) r ∙ h .long;
+}
+  where
+    last : getD (h .list ++ r ∷ []) n none ≡ r
+    last = ap (λ (m : ℕ). getD (h .list ++ r ∷ []) m none) (sym (h .many)) ∙ getD-append-seam (h .list) r [] none
+
+pub ranks-done : {f d : List ℕ} {v : Shape} {x : List ℕ} {n : ℕ} {out : List ℕ} {a : ℕ} {out′ : List ℕ} → ChildRanks f d v x n out a out′ → n ≡ max-kids
+    → ChildRanks f d v x max-kids out a out′
+ranks-done {f} {d} {v} {x} {n} {out} {a} {out′} h e = subst (λ n. ChildRanks f d v x n out a out′) e h
+
+-- ── the labels ──
+pub labels-put : (x out : List ℕ) (a : ℕ) {l out′ : List ℕ} → l ≡ tidied x → out′ ≡ place a l out → out′ ≡ place a (tidied x) out
+labels-put x out a e p = p ∙ ap (λ (u : List ℕ). place a u out) e
