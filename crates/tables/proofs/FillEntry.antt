@@ -1,4 +1,4 @@
--- One entry: the ranks that it holds, and its bytes.
+-- One entry: the ranks that it holds, its labels, and the run of one that it is.
 use mathlib.Core.Path.{_≡_, refl, sym, ap, _∙_, subst}
 use mathlib.Core.List.{List, [], _∷_, _++_, List·Memᴰ, append-nil}
 use Prim.Native.Nat.{ℕ, suc, _+_, _*_, _≤_, _<_}
@@ -6,17 +6,19 @@ use native.Mathlib.Nat.{add-zero}
 use native.Mathlib.Omega.{arith}
 use borrow.Author.Count.{below-more}
 use lib.ListN.{length, getD, take, drop, set, length-append, length-set, take-append-drop, List·getD-append}
-use lib.Seq.{take-at, getD-append-add, getD-append-seam}
+use lib.Seq.{append-snoc, set-split, take-at, getD-append-add, getD-append-seam}
 use Rattle.lists.specs.Part.{part, place}
 use Rattle.lists.proofs.Carry.{placed}
 use Rattle.chains.specs.Limits.{max-kids, max-members}
 use Rattle.chains.specs.State.{code-on}
-use Rattle.ranks.specs.Entries.{labels, none}
+use Rattle.ranks.specs.Entries.{labels, entry-bytes, none}
 use Rattle.tables.specs.Sets.{member}
 use Rattle.tables.specs.State.{tidied}
-use Rattle.tables.specs.Fill.{kind-of, width-of, InPlace, Listed, RankOn, ChildRank, ChildRanks, DownBytes}
+use Rattle.tables.specs.Fill.{kind-of, width-of, InPlace, Listed, RankOn, ChildRank, ChildRanks, DownBytes, Entry, places, Rankable, Laid}
 use Rattle.tables.specs.declared.shape.Shape.{Shape}
+use Rattle.tables.specs.declared.fill.Table.{Table}
 use Rattle.tables.proofs.StateTidy.{tidy-state}
+use Rattle.tables.proofs.FillRuns.{place-behind, laid-one}
 
 -- ── a rank ──
 module _ {f d : List ℕ} {v : Shape} {x : List ℕ} (h : InPlace f d v x) (t : ℕ) (l : t ≤ v .arity) {k : ℕ} (e : k ≡ kind-of v t) where
@@ -78,3 +80,48 @@ ranks-done {f} {d} {v} {x} {n} {out} {a} {out′} h e = subst (λ n. ChildRanks 
 -- ── the labels ──
 pub labels-put : (x out : List ℕ) (a : ℕ) {l out′ : List ℕ} → l ≡ tidied x → out′ ≡ place a l out → out′ ≡ place a (tidied x) out
 labels-put x out a e p = p ∙ ap (λ (u : List ℕ). place a u out) e
+
+-- ── whole entries ──
+pub up-put : {f d : List ℕ} {v : Shape} {x : List ℕ} (out : List ℕ) (a : ℕ) {r : ℕ} → RankOn f d v 0 x r → a + 1 ≤ length out
+    → Laid 1 1 (λ i e. RankOn f d v 0 x (getD e 0 none)) out a (set out a r) (a + 1)
+up-put {f} {d} {v} {x} out a {r} h room =
+    let e : a + 1 ≡ suc a = omega arith in
+    let p : set out a r ≡ place a (r ∷ []) out = rw e (set-split out a r (omega arith) ∙ sym (append-snoc (take a out) r (drop (suc a) out))) in
+    laid-one (λ i e. RankOn f d v 0 x (getD e 0 none)) refl h room p
+
+pub down-put : {f d : List ℕ} {v : Shape} {x out : List ℕ} {a : ℕ} {out′ out″ : List ℕ} {b : ℕ} → InPlace f d v x → a + entry-bytes ≤ length out → b ≡ a + labels
+    → out′ ≡ place a (tidied x) out → ChildRanks f d v x max-kids out′ b out″ → Laid entry-bytes 1 (λ i e. DownBytes f d v x e) out a out″ (a + entry-bytes)
+down-put {f} {d} {v} {x} {out} {a} {out′} {out″} {b} h room at e k = laid-one (λ i e. DownBytes f d v x e) long bytes room held
+  where
+    many : length (tidied x) ≡ labels
+    many = tidy-state (h .ready .state) .long
+
+    long : length (tidied x ++ k .list) ≡ entry-bytes
+    long = omega (arith, length-append (tidied x) (k .list), many, k .many)
+
+    bytes : DownBytes f d v x (tidied x ++ k .list)
+    bytes = record {
+      blocks = take-at (tidied x) (k .list) labels many;
+      ranks = λ j m. subst (ChildRank f d v x j) (sym (behind j)) (k .each j m);
+    }
+      where
+        behind : (j : ℕ) → getD (tidied x ++ k .list) (labels + j) none ≡ getD (k .list) j none
+        behind j = ap (λ (i : ℕ). getD (tidied x ++ k .list) (i + j) none) (sym many) ∙ getD-append-add (tidied x) (k .list) j none
+
+    held : out″ ≡ place a (tidied x ++ k .list) out
+    held =
+        let q : b ≡ a + length (tidied x) = omega (arith, many) in
+        k .held ∙ ap (λ (u : List ℕ). place b (k .list) u) e ∙ ap (λ (i : ℕ). place i (k .list) (place a (tidied x) out)) q
+        ∙ place-behind out (tidied x) (k .list) a (omega (arith, many, k .many))
+
+-- of the table that is told
+module _ {table known : Table} (e : table ≡ known) where
+  pub told-rankable : (f d : List ℕ) (v : Shape) (x : List ℕ) → Rankable table f d v x → Rankable known f d v x
+  told-rankable f d v x h = subst (λ t. Rankable t f d v x) e h
+
+  pub told-room : (a : ℕ) {n : ℕ} → a + places table ≤ n → a + places known ≤ n
+  told-room a {n} l = subst (λ t. a + places t ≤ n) e l
+
+  pub told-laid : (f d : List ℕ) (v : Shape) (x : List ℕ) {out : List ℕ} {a : ℕ} {out′ : List ℕ} {z : ℕ} → Laid (places known) 1 (λ i b. Entry known f d v x b) out a out′ z
+      → Laid (places table) 1 (λ i b. Entry table f d v x b) out a out′ z
+  told-laid f d v x {out} {a} {out′} {z} h = subst (λ t. Laid (places t) 1 (λ i b. Entry t f d v x b) out a out′ z) (sym e) h

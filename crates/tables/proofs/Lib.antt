@@ -17,5 +17,5 @@ pub mod StateWalk
 pub mod StateEntry
 pub mod Shapes
 pub mod EntryCounts
-pub mod FillEntry
 pub mod FillRuns
+pub mod FillEntry

@@ -1,3 +1,6 @@
+-- A down entry. Assumes nothing.
+use mathlib.Core.Path.{refl}
+use Rattle.tables.proofs.FillEntry.{down-put}
 use borrow.Author.Needs.{needs}
 use Rattle.tables.proofs.fill.put_down.Statement.{statement}
 use Rattle.tables.proofs.fill.put_down.Tie as tie
@@ -28,7 +31,7 @@ same-length c = search needs
 
 -- src/fill.rt:98:1
 returns : tie.Need-returns
-returns c = ?
+returns c = down-put (c .before .before .before .before .before .before .before .before .before .before .before .pre .0) (c .before .before .before .before .before .before .before .before .before .before .before .pre .2) refl (c .before .before .before .before .before .before .put-labels .ensures) (c .before .before .put-ranks .ensures)
 
 pub put-down-spec : {M : Type 1} → statement M
 put-down-spec =

@@ -1,3 +1,5 @@
+-- An up entry. Assumes nothing.
+use Rattle.tables.proofs.FillEntry.{up-put}
 use borrow.Author.Needs.{needs}
 use Rattle.tables.proofs.fill.put_up.Statement.{statement}
 use Rattle.tables.proofs.fill.put_up.Tie as tie
@@ -23,7 +25,7 @@ same-length c = search needs
 
 -- src/fill.rt:89:1
 returns : tie.Need-returns
-returns c = ?
+returns c = up-put (c .before .before .before .before .args .out .now) (c .before .before .before .before .args .at) (c .rank-on .ensures) (c .before .before .before .before .pre .2)
 
 pub put-up-spec : {M : Type 1} → statement M
 put-up-spec = tie.close (tie.spec rank-on-requires slice-write-out add-result same-length returns)
