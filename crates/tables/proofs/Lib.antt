@@ -19,3 +19,4 @@ pub mod Shapes
 pub mod EntryCounts
 pub mod FillRuns
 pub mod FillEntry
+pub mod FillChoices

@@ -4,12 +4,11 @@ ghost use mathlib.Core.Path.{_≡_};
 ghost use Prim.Native.Nat.{suc, _+_, _*_, _<_, _≤_};
 ghost use lib.ListN.{length, getD};
 ghost use Rattle.lists.specs.Part.{place};
-ghost use Rattle.chains.specs.Limits.{max-kids, max-settings};
-ghost use Rattle.chains.specs.Labels.{joins};
-ghost use Rattle.chains.specs.State.{code-pairs};
+ghost use Rattle.chains.specs.Limits.{max-kids, max-members};
 ghost use Rattle.ranks.specs.Entries.{choices, labels, entry-bytes};
+ghost use Rattle.tables.specs.Sets.{member};
 ghost use Rattle.tables.specs.State.{State, tidied};
-ghost use Rattle.tables.specs.Fill.{kinds-from, InPlace, Listed, RankOn, ChildRank, ChildRanks, Rankable, Entry, places, Laid, Choices, Asked};
+ghost use Rattle.tables.specs.Fill.{kind-of, kinds-from, Sized, Ready, tied-once, InPlace, Listed, RankOn, ChildRank, ChildRanks, Rankable, Entry, places, Laid, Choices, Asked};
 use super::labels::LABELS;
 use super::labels::NONE;
 use super::labels::base;
@@ -112,4 +111,55 @@ fn put_entry(table: Table, v: Shape, s: &[u8; LABELS], sets: &[u32], counts: &[u
         Table::Up => put_up(v, s, sets, counts, out, at),
         Table::Down => put_down(v, s, sets, counts, out, at),
     }
+}
+
+// ---- the entries of a production
+
+// The number of members that a slot has to choose from.
+fn members_on(v: Shape, slot: u8, counts: &[u8]) -> usize
+    requires { ⌜ (v .arity ≤ max-kids) × (slot ≤ v .arity) × (kind-of v slot < length (now counts)) ⌝ }
+    ensures { λ r. ⌜ r ≡ getD (now (counts .entry)) (kind-of v slot) 0 ⌝ }
+{
+    count(counts, wide(v.kinds[wide(slot)]))
+}
+
+// The state t becomes s with a member tied to a slot.
+fn tie_member(v: Shape, slot: u8, r: usize, sets: &[u32], s: &[u8; LABELS], t: &mut [u8; LABELS])
+    requires { ⌜ Sized v × Ready v (now s) × (slot ≤ v .arity) × (kind-of v slot * max-members + r < length (now sets)) ⌝ }
+    ensures { λ _. ⌜ now (t .exit) ≡ tied-once v slot (member (now (sets .entry)) (kind-of v slot) r) (now (s .entry)) ⌝ }
+{
+    let i = wide(slot);
+    *t = *s;
+    tie(t, slot, v.widths[i], sets[wide(v.kinds[i]) * MAX_MEMBERS + r]);
+}
+
+// The entries of all choices for the slots from `slot` on, in order; the answer is the place behind them.
+fn lay(
+    table: Table,
+    v: Shape,
+    slot: u8,
+    s: &[u8; LABELS],
+    sets: &[u32],
+    counts: &[u8],
+    ranked: &[u32],
+    sizes: &[u8],
+    out: &mut [u8],
+    at: usize,
+) -> usize
+    requires { ⌜ Asked table v slot (now sets) (now counts) (now ranked) (now sizes) (now s) (now out) at ⌝ }
+    ensures { λ r. ⌜ Laid (places table) (choices (now (counts .entry)) (kinds-from v slot)) (Choices table v slot (now (sets .entry)) (now (counts .entry)) (now (ranked .entry)) (now (sizes .entry)) (kinds-from v slot) (now (s .entry))) (now (out .entry)) at (now (out .exit)) r ⌝ }
+{
+    if v.arity < slot {
+        return put_entry(table, v, s, ranked, sizes, out, at);
+    }
+    let n = members_on(v, slot, counts);
+    let mut t = [NONE; LABELS];
+    let mut to = at;
+    let mut r = 0;
+    while r < n {
+        tie_member(v, slot, r, sets, s, &mut t);
+        to = lay(table, v, slot + 1, &t, sets, counts, ranked, sizes, out, to);
+        r += 1;
+    }
+    to
 }
