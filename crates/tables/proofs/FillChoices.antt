@@ -41,3 +41,132 @@ pub tie-ready : {v : Shape} {x : List ℕ} → Sized v → Ready v x → (t y : 
 tie-ready {v} {x} z h t y l =
     let m = tie-means (h .state) t (width-of v t) y (z .widths t l) (h .whole t l) in
     record { state = m .state; whole = λ u k i b. m .present (spot u i) .1 (h .whole u k i b) }
+
+module _ (table : Table) (v : Shape) (t : ℕ) (s c f d : List ℕ) where
+  -- ── no slot is left ──
+  -- the choices for no kinds: one, and it ties nothing
+  none-rankable : (x ks : List ℕ) → ks ≡ [] → ((rs : List ℕ) → Ranks c ks rs → Rankable table f d v (chosen v t s ks rs x)) → Rankable table f d v x
+  unfolding picked tied
+  none-rankable x ks e h = subst (λ ks. (rs : List ℕ) → Ranks c ks rs → Rankable table f d v (chosen v t s ks rs x)) e h [] tt
+
+  none-count : (ks : List ℕ) → ks ≡ [] → choices c ks ≡ 1
+  unfolding choices
+  none-count ks e = ap (choices c) e
+
+  none-laid : (x : List ℕ) {ks out : List ℕ} {a : ℕ} {out′ : List ℕ} {z : ℕ} → ks ≡ [] → Laid (places table) 1 (λ i e. Entry table f d v x e) out a out′ z
+      → Laid (places table) (choices c ks) (Choices table v t s c f d ks x) out a out′ z
+  unfolding picked tied choices
+  none-laid x {ks} {out} {a} {out′} {z} e h =
+      subst (λ ks. Laid (places table) (choices c ks) (Choices table v t s c f d ks x) out a out′ z) (sym e) (laid-map h (λ i l b q rs r n. q))
+
+  -- ── the ranks of a slot, whose kind is k; ks are the kinds behind it ──
+  -- the entries of rank r stand behind those of the ranks before it
+  rank-behind : (x : List ℕ) (k : ℕ) (ks : List ℕ) (r : ℕ)
+      → Behind (r * choices c ks) (choices c ks) (Choices table v t s c f d (k ∷ ks) x) (Choices table v (suc t) s c f d ks (tied-once v t (member s k r) x))
+  unfolding picked tied choice
+  rank-behind x k ks r i l b q [] h e = absurd h
+  rank-behind x k ks r i l b q (u ∷ rs) h e =
+      let (first, rest) = digit-once u (choice c ks rs) r i (choice-below c ks rs (h .1)) l e in
+      subst (λ u. Entry table f d v (tied v (suc t) (picked s ks rs) (tied-once v t (member s k u) x)) b) (sym first) (q rs (h .1) rest)
+
+  rank-rankable : (x : List ℕ) (k : ℕ) (ks : List ℕ) (r : ℕ) → r < getD c k 0 → ((rs : List ℕ) → Ranks c (k ∷ ks) rs → Rankable table f d v (chosen v t s (k ∷ ks) rs x))
+      → (rs : List ℕ) → Ranks c ks rs → Rankable table f d v (chosen v (suc t) s ks rs (tied-once v t (member s k r) x))
+  unfolding picked tied
+  rank-rankable x k ks r l h rs m = h (r ∷ rs) (l, m)
+
+-- so many ranks of m choices each are within all of them
+ranks-fit : (r n m w a z : ℕ) → r < n → a + n * m * w ≤ z → a + (r * m + m) * w ≤ z
+ranks-fit r n m w a z l h =
+    let b : suc r * m ≤ n * m = mul-le-mul-right m l in
+    let e : suc r * m ≡ r * m + m = omega arith in
+    let g : (r * m + m) * w ≤ n * m * w = mul-le-mul-right w (omega arith) in
+    omega arith
+
+module _ {table : Table} {v : Shape} {t : ℕ} {s c f d x out : List ℕ} {a : ℕ} (h : Asked table v t s c f d x out a) where
+  -- ── the last slot is tied ──
+  module _ (l : v .arity < t) where
+    pub leaf-asks : InPlace f d v x × Rankable table f d v x × (a + places table ≤ length out)
+    leaf-asks =
+        let e = kinds-none v t l in
+        let n = none-count table v t s c f d (kinds-from v t) e in
+        let g : a + 1 * places table ≤ length out = rw n at (h .room) in
+        (h .standing, none-rankable table v t s c f d x (kinds-from v t) e (h .rankable), omega (arith, one-mul (places table)))
+
+    pub leaf-laid : {out′ : List ℕ} {z : ℕ} → Laid (places table) 1 (λ i e. Entry table f d v x e) out a out′ z
+        → Laid (places table) (choices c (kinds-from v t)) (Choices table v t s c f d (kinds-from v t) x) out a out′ z
+    leaf-laid k = none-laid table v t s c f d x (kinds-none v t l) k
+
+  -- ── the ranks of slot t, one after another ──
+  module _ (l : t ≤ v .arity) where
+    all-choices : choices c (kinds-from v t) ≡ getD c (kind-of v t) 0 * choices c (kinds-from v (suc t))
+    unfolding choices
+    all-choices = ap (choices c) (kinds-step v t l)
+
+    pub turn-placed : {r n : ℕ} → n ≡ getD c (kind-of v t) 0 → r < n → kind-of v t * max-members + r < length s
+    turn-placed e k = let p = h .choose t l in omega (arith, p .there, p .few)
+
+    -- so many ranks are done
+    ranks-room : {r : ℕ} → r < getD c (kind-of v t) 0
+        → a + (r * choices c (kinds-from v (suc t)) + choices c (kinds-from v (suc t))) * places table ≤ length out
+    ranks-room {r} k =
+        ranks-fit r (getD c (kind-of v t) 0) (choices c (kinds-from v (suc t))) (places table) a (length out) k
+        (subst (λ (m : ℕ). a + m * places table ≤ length out) all-choices (h .room))
+
+-- of slot t the first r of n ranks have their entries
+pub record Turning (table : Table) (v : Shape) (t : ℕ) (s c f d x out : List ℕ) (a n : ℕ) (out′ : List ℕ) (z r : ℕ) : Type 0 where
+  pub all : n ≡ getD c (kind-of v t) 0
+  pub within : r ≤ n
+  pub laid : Laid (places table) (r * choices c (kinds-from v (suc t))) (Choices table v t s c f d (kinds-from v t) x) out a out′ z
+
+pub turn-begun : (table : Table) (v : Shape) (t : ℕ) (s c f d x out : List ℕ) (a : ℕ) {n : ℕ} → n ≡ getD c (kind-of v t) 0
+    → Turning table v t s c f d x out a n out a 0
+turn-begun table v t s c f d x out a e =
+    let z : 0 ≡ 0 * choices c (kinds-from v (suc t)) = omega arith in
+    record { all = e; within = omega arith; laid = laid-count (laid-none (places table) (Choices table v t s c f d (kinds-from v t) x) out a) z }
+
+module _ {table : Table} {v : Shape} {t : ℕ} {s c f d x out : List ℕ} {a n : ℕ} {out′ : List ℕ} {z r : ℕ} (h : Asked table v t s c f d x out a) (l : t ≤ v .arity)
+    (g : Turning table v t s c f d x out a n out′ z r) where
+  abbrev ks : List ℕ
+  ks = kinds-from v (suc t)
+
+  abbrev x′ : List ℕ
+  x′ = tied-once v t (member s (kind-of v t) r) x
+
+  module _ (m : r < n) where
+    below : r < getD c (kind-of v t) 0
+    below = omega (arith, g .all)
+
+    next-asked : Asked table v (suc t) s c f d x′ out′ z
+    next-asked = record {
+      standing = record { sized = h .standing .sized; placed = h .standing .placed; ready = tie-ready (h .standing .sized) (h .standing .ready) t (member s (kind-of v t) r) l };
+      choose = h .choose;
+      within = omega arith;
+      rankable = rank-rankable table v t s c f d x (kind-of v t) ks r below
+          (subst (λ ks. (rs : List ℕ) → Ranks c ks rs → Rankable table f d v (chosen v t s ks rs x)) (kinds-step v t l) (h .rankable));
+      room = let e = add-mul (r * choices c ks) (choices c ks) (places table) in omega (arith, ranks-room h l below, g .laid .ends, g .laid .long);
+    }
+
+    -- what the next slot asks for
+    pub turn-asks : {y : List ℕ} → y ≡ x′ → Asked table v (t + 1) s c f d y out′ z
+    turn-asks e = rw (e, add-one t) next-asked
+
+    next-laid : {out″ : List ℕ} {y : ℕ} → Laid (places table) (choices c ks) (Choices table v (suc t) s c f d ks x′) out′ z out″ y
+        → Laid (places table) (suc r * choices c ks) (Choices table v t s c f d (kinds-from v t) x) out a out″ y
+    next-laid k =
+        let q : r * choices c ks + choices c ks ≡ suc r * choices c ks = omega arith in
+        laid-count (laid-then (g .laid) k (ranks-room h l below)
+        (subst (λ u. Behind (r * choices c ks) (choices c ks) (Choices table v t s c f d u x) (Choices table v (suc t) s c f d ks x′)) (sym (kinds-step v t l))
+        (rank-behind table v t s c f d x (kind-of v t) ks r))) q
+
+    -- and what it brings
+    pub turn-next : {y : List ℕ} {out″ : List ℕ} {z′ : ℕ} → y ≡ x′
+        → Laid (places table) (choices c (kinds-from v (t + 1))) (Choices table v (t + 1) s c f d (kinds-from v (t + 1)) y) out′ z out″ z′
+        → Turning table v t s c f d x out a n out″ z′ (r + 1)
+    turn-next {y} {out″} {z′} e k =
+        let k′ : Laid (places table) (choices c ks) (Choices table v (suc t) s c f d ks x′) out′ z out″ z′ = rw (e, add-one t) at k in
+        record { all = g .all; within = omega arith; laid = rw (add-one r) (next-laid k′) }
+
+  pub turn-done : n ≤ r → Laid (places table) (choices c (kinds-from v t)) (Choices table v t s c f d (kinds-from v t) x) out a out′ z
+  turn-done m =
+      let e : r ≡ getD c (kind-of v t) 0 = omega (arith, g .all, g .within) in
+      laid-count (g .laid) (ap (λ (r : ℕ). r * choices c ks) e ∙ sym (all-choices h l))
