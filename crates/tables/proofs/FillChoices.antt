@@ -2,7 +2,7 @@
 use mathlib.Core.Path.{_≡_, refl, sym, ap, ap₂, _∙_, subst}
 use mathlib.Core.List.{List, [], _∷_}
 use Prim.Native.Nat.{ℕ, zero, suc, _+_, _-_, _*_, _≤_, _<_}
-use native.Mathlib.Nat.{add-mul, mul-le-mul-right, one-mul}
+use native.Mathlib.Nat.{one-mul}
 use native.Mathlib.Numerals.{add-one}
 use native.Mathlib.Omega.{arith}
 use lib.ListN.{length, getD}
@@ -20,7 +20,7 @@ use Rattle.tables.specs.declared.shape.Shape.{Shape}
 use Rattle.tables.specs.declared.fill.Table.{Table}
 use Rattle.tables.proofs.State.{tie-means}
 use Rattle.tables.proofs.Shapes.{kinds-step, kinds-none}
-use Rattle.tables.proofs.FillRuns.{Behind, laid-none, laid-then, laid-map, laid-count}
+use Rattle.tables.proofs.FillRuns.{Behind, laid-map, laid-count, Blocks, blocks-begun, blocks-room, blocks-next, blocks-done}
 
 -- ── a slot ──
 module _ (v : Shape) {t i k : ℕ} (e : i ≡ t) (e′ : k ≡ kind-of v i) where
@@ -74,14 +74,6 @@ module _ (table : Table) (v : Shape) (t : ℕ) (s c f d : List ℕ) where
   unfolding picked tied
   rank-rankable x k ks r l h rs m = h (r ∷ rs) (l, m)
 
--- so many ranks of m choices each are within all of them
-ranks-fit : (r n m w a z : ℕ) → r < n → a + n * m * w ≤ z → a + (r * m + m) * w ≤ z
-ranks-fit r n m w a z l h =
-    let b : suc r * m ≤ n * m = mul-le-mul-right m l in
-    let e : suc r * m ≡ r * m + m = omega arith in
-    let g : (r * m + m) * w ≤ n * m * w = mul-le-mul-right w (omega arith) in
-    omega arith
-
 module _ {table : Table} {v : Shape} {t : ℕ} {s c f d x out : List ℕ} {a : ℕ} (h : Asked table v t s c f d x out a) where
   -- ── the last slot is tied ──
   module _ (l : v .arity < t) where
@@ -96,77 +88,54 @@ module _ {table : Table} {v : Shape} {t : ℕ} {s c f d x out : List ℕ} {a : �
         → Laid (places table) (choices c (kinds-from v t)) (Choices table v t s c f d (kinds-from v t) x) out a out′ z
     leaf-laid k = none-laid table v t s c f d x (kinds-none v t l) k
 
-  -- ── the ranks of slot t, one after another ──
-  module _ (l : t ≤ v .arity) where
-    all-choices : choices c (kinds-from v t) ≡ getD c (kind-of v t) 0 * choices c (kinds-from v (suc t))
+  -- ── the n ranks of slot t, one after another ──
+  module _ (l : t ≤ v .arity) {n : ℕ} (e : n ≡ getD c (kind-of v t) 0) where
+    abbrev ks : List ℕ
+    ks = kinds-from v (suc t)
+
+    abbrev Turning : List ℕ → ℕ → ℕ → Type 0
+    Turning out′ z r = Blocks (places table) (choices c ks) n (Choices table v t s c f d (kinds-from v t) x) out a out′ z r
+
+    all-choices : choices c (kinds-from v t) ≡ n * choices c ks
     unfolding choices
-    all-choices = ap (choices c) (kinds-step v t l)
+    all-choices = ap (choices c) (kinds-step v t l) ∙ ap (λ (n : ℕ). n * choices c ks) (sym e)
 
-    pub turn-placed : {r n : ℕ} → n ≡ getD c (kind-of v t) 0 → r < n → kind-of v t * max-members + r < length s
-    turn-placed e k = let p = h .choose t l in omega (arith, p .there, p .few)
-
-    -- so many ranks are done
-    ranks-room : {r : ℕ} → r < getD c (kind-of v t) 0
-        → a + (r * choices c (kinds-from v (suc t)) + choices c (kinds-from v (suc t))) * places table ≤ length out
-    ranks-room {r} k =
-        ranks-fit r (getD c (kind-of v t) 0) (choices c (kinds-from v (suc t))) (places table) a (length out) k
+    pub turn-begun : Turning out a 0
+    turn-begun =
+        blocks-begun (places table) (choices c ks) n (Choices table v t s c f d (kinds-from v t) x) out a
         (subst (λ (m : ℕ). a + m * places table ≤ length out) all-choices (h .room))
 
--- of slot t the first r of n ranks have their entries
-pub record Turning (table : Table) (v : Shape) (t : ℕ) (s c f d x out : List ℕ) (a n : ℕ) (out′ : List ℕ) (z r : ℕ) : Type 0 where
-  pub all : n ≡ getD c (kind-of v t) 0
-  pub within : r ≤ n
-  pub laid : Laid (places table) (r * choices c (kinds-from v (suc t))) (Choices table v t s c f d (kinds-from v t) x) out a out′ z
+    pub turn-placed : {r : ℕ} → r < n → kind-of v t * max-members + r < length s
+    turn-placed k = let p = h .choose t l in omega (arith, p .there, p .few)
 
-pub turn-begun : (table : Table) (v : Shape) (t : ℕ) (s c f d x out : List ℕ) (a : ℕ) {n : ℕ} → n ≡ getD c (kind-of v t) 0
-    → Turning table v t s c f d x out a n out a 0
-turn-begun table v t s c f d x out a e =
-    let z : 0 ≡ 0 * choices c (kinds-from v (suc t)) = omega arith in
-    record { all = e; within = omega arith; laid = laid-count (laid-none (places table) (Choices table v t s c f d (kinds-from v t) x) out a) z }
+    module _ {out′ : List ℕ} {z r : ℕ} (g : Turning out′ z r) where
+      abbrev x′ : List ℕ
+      x′ = tied-once v t (member s (kind-of v t) r) x
 
-module _ {table : Table} {v : Shape} {t : ℕ} {s c f d x out : List ℕ} {a n : ℕ} {out′ : List ℕ} {z r : ℕ} (h : Asked table v t s c f d x out a) (l : t ≤ v .arity)
-    (g : Turning table v t s c f d x out a n out′ z r) where
-  abbrev ks : List ℕ
-  ks = kinds-from v (suc t)
+      module _ (m : r < n) where
+        next-asked : Asked table v (suc t) s c f d x′ out′ z
+        next-asked = record {
+          standing = record { sized = h .standing .sized; placed = h .standing .placed; ready = tie-ready (h .standing .sized) (h .standing .ready) t (member s (kind-of v t) r) l };
+          choose = h .choose;
+          within = omega arith;
+          rankable = rank-rankable table v t s c f d x (kind-of v t) ks r (omega arith)
+              (subst (λ ks. (rs : List ℕ) → Ranks c ks rs → Rankable table f d v (chosen v t s ks rs x)) (kinds-step v t l) (h .rankable));
+          room = blocks-room g m;
+        }
 
-  abbrev x′ : List ℕ
-  x′ = tied-once v t (member s (kind-of v t) r) x
+        -- what the next slot asks for
+        pub turn-asks : {y : List ℕ} → y ≡ x′ → Asked table v (t + 1) s c f d y out′ z
+        turn-asks q = rw (q, add-one t) next-asked
 
-  module _ (m : r < n) where
-    below : r < getD c (kind-of v t) 0
-    below = omega (arith, g .all)
+        -- and what it brings
+        pub turn-next : {y : List ℕ} {out″ : List ℕ} {z′ : ℕ} → y ≡ x′
+            → Laid (places table) (choices c (kinds-from v (t + 1))) (Choices table v (t + 1) s c f d (kinds-from v (t + 1)) y) out′ z out″ z′
+            → Turning out″ z′ (r + 1)
+        turn-next {y} {out″} {z′} q k =
+            let k′ : Laid (places table) (choices c ks) (Choices table v (suc t) s c f d ks x′) out′ z out″ z′ = rw (q, add-one t) at k in
+            blocks-next g m k′
+            (subst (λ u. Behind (r * choices c ks) (choices c ks) (Choices table v t s c f d u x) (Choices table v (suc t) s c f d ks x′)) (sym (kinds-step v t l))
+            (rank-behind table v t s c f d x (kind-of v t) ks r))
 
-    next-asked : Asked table v (suc t) s c f d x′ out′ z
-    next-asked = record {
-      standing = record { sized = h .standing .sized; placed = h .standing .placed; ready = tie-ready (h .standing .sized) (h .standing .ready) t (member s (kind-of v t) r) l };
-      choose = h .choose;
-      within = omega arith;
-      rankable = rank-rankable table v t s c f d x (kind-of v t) ks r below
-          (subst (λ ks. (rs : List ℕ) → Ranks c ks rs → Rankable table f d v (chosen v t s ks rs x)) (kinds-step v t l) (h .rankable));
-      room = let e = add-mul (r * choices c ks) (choices c ks) (places table) in omega (arith, ranks-room h l below, g .laid .ends, g .laid .long);
-    }
-
-    -- what the next slot asks for
-    pub turn-asks : {y : List ℕ} → y ≡ x′ → Asked table v (t + 1) s c f d y out′ z
-    turn-asks e = rw (e, add-one t) next-asked
-
-    next-laid : {out″ : List ℕ} {y : ℕ} → Laid (places table) (choices c ks) (Choices table v (suc t) s c f d ks x′) out′ z out″ y
-        → Laid (places table) (suc r * choices c ks) (Choices table v t s c f d (kinds-from v t) x) out a out″ y
-    next-laid k =
-        let q : r * choices c ks + choices c ks ≡ suc r * choices c ks = omega arith in
-        laid-count (laid-then (g .laid) k (ranks-room h l below)
-        (subst (λ u. Behind (r * choices c ks) (choices c ks) (Choices table v t s c f d u x) (Choices table v (suc t) s c f d ks x′)) (sym (kinds-step v t l))
-        (rank-behind table v t s c f d x (kind-of v t) ks r))) q
-
-    -- and what it brings
-    pub turn-next : {y : List ℕ} {out″ : List ℕ} {z′ : ℕ} → y ≡ x′
-        → Laid (places table) (choices c (kinds-from v (t + 1))) (Choices table v (t + 1) s c f d (kinds-from v (t + 1)) y) out′ z out″ z′
-        → Turning table v t s c f d x out a n out″ z′ (r + 1)
-    turn-next {y} {out″} {z′} e k =
-        let k′ : Laid (places table) (choices c ks) (Choices table v (suc t) s c f d ks x′) out′ z out″ z′ = rw (e, add-one t) at k in
-        record { all = g .all; within = omega arith; laid = rw (add-one r) (next-laid k′) }
-
-  pub turn-done : n ≤ r → Laid (places table) (choices c (kinds-from v t)) (Choices table v t s c f d (kinds-from v t) x) out a out′ z
-  turn-done m =
-      let e : r ≡ getD c (kind-of v t) 0 = omega (arith, g .all, g .within) in
-      laid-count (g .laid) (ap (λ (r : ℕ). r * choices c ks) e ∙ sym (all-choices h l))
+      pub turn-done : n ≤ r → Laid (places table) (choices c (kinds-from v t)) (Choices table v t s c f d (kinds-from v t) x) out a out′ z
+      turn-done m = laid-count (blocks-done g m) (sym all-choices)

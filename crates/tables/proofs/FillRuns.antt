@@ -3,6 +3,7 @@ use mathlib.Core.Path.{_≡_, refl, sym, ap, _∙_, subst}
 use mathlib.Core.List.{List, [], _∷_, _++_, append-assoc, append-nil}
 use Prim.Native.Nat.{ℕ, zero, suc, _+_, _-_, _*_, _≤_, _<_}
 use native.Mathlib.Nat.{add-zero, add-mul, mul-le-mul-right, one-mul}
+use native.Mathlib.Numerals.{add-one}
 use native.Mathlib.Decide.{decLt}
 use native.Mathlib.Omega.{arith}
 use lib.ListN.{length, take, drop, length-append, length-drop, take-append-drop}
@@ -118,6 +119,39 @@ laid-map h f = record {
 
 pub laid-count : {w n m : ℕ} {Q : ℕ → List ℕ → Type 0} {out : List ℕ} {a : ℕ} {out′ : List ℕ} {z : ℕ} → Laid w n Q out a out′ z → n ≡ m → Laid w m Q out a out′ z
 laid-count {w} {Q = Q} {out} {a} {out′} {z} h e = subst (λ n. Laid w n Q out a out′ z) e h
+
+-- ── blocks of m entries each, one behind another ──
+-- r of n blocks are laid
+pub record Blocks (w m n : ℕ) (Q : ℕ → List ℕ → Type 0) (out : List ℕ) (a : ℕ) (out′ : List ℕ) (z r : ℕ) : Type 0 where
+  pub within : r ≤ n
+  pub room : a + n * m * w ≤ length out
+  pub laid : Laid w (r * m) Q out a out′ z
+
+pub blocks-begun : (w m n : ℕ) (Q : ℕ → List ℕ → Type 0) (out : List ℕ) (a : ℕ) → a + n * m * w ≤ length out → Blocks w m n Q out a out a 0
+blocks-begun w m n Q out a h =
+    let z : 0 ≡ 0 * m = omega arith in
+    record { within = omega arith; room = h; laid = laid-count (laid-none w Q out a) z }
+
+module _ {w m n : ℕ} {Q : ℕ → List ℕ → Type 0} {out : List ℕ} {a : ℕ} {out′ : List ℕ} {z r : ℕ} (h : Blocks w m n Q out a out′ z r) where
+  module _ (l : r < n) where
+    one-more : a + (r * m + m) * w ≤ length out
+    one-more =
+        let b : suc r * m ≤ n * m = mul-le-mul-right m l in
+        let e : suc r * m ≡ r * m + m = omega arith in
+        let g : (r * m + m) * w ≤ n * m * w = mul-le-mul-right w (omega arith) in
+        omega (arith, h .room)
+
+    -- there is room for one more
+    pub blocks-room : z + m * w ≤ length out′
+    blocks-room = let e = add-mul (r * m) m w in omega (arith, one-more, h .laid .ends, h .laid .long)
+
+    pub blocks-next : {Q′ : ℕ → List ℕ → Type 0} {out″ : List ℕ} {y : ℕ} → Laid w m Q′ out′ z out″ y → Behind (r * m) m Q Q′ → Blocks w m n Q out a out″ y (r + 1)
+    blocks-next k f =
+        let q : r * m + m ≡ suc r * m = omega arith in
+        record { within = omega arith; room = h .room; laid = rw (add-one r) (laid-count (laid-then (h .laid) k one-more f) q) }
+
+  pub blocks-done : n ≤ r → Laid w (n * m) Q out a out′ z
+  blocks-done l = let e : r ≡ n = omega (arith, h .within) in laid-count (h .laid) (ap (λ (r : ℕ). r * m) e)
 
 -- ── a whole table ──
 module _ {w n : ℕ} {Q : ℕ → List ℕ → Type 0} {out out′ : List ℕ} {z : ℕ} (h : Laid w n Q out 0 out′ z) (room : n * w ≤ length out) where
