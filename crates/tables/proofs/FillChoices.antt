@@ -15,7 +15,7 @@ use Rattle.ranks.proofs.Numbers.{choice-below}
 use Rattle.tables.specs.Sets.{member}
 use Rattle.tables.specs.Entries.{Ranks, picked}
 use Rattle.tables.specs.State.{Present, Whole, spot}
-use Rattle.tables.specs.Fill.{kind-of, width-of, kinds-from, Sized, Ready, tied-once, tied, InPlace, Entry, places, Rankable, Laid, chosen, Choices, Asked}
+use Rattle.tables.specs.Fill.{kind-of, width-of, kinds-from, Sized, Ready, tied-once, tied, InPlace, Entry, entry-size, Rankable, Laid, chosen, Choices, Asked}
 use Rattle.tables.specs.declared.shape.Shape.{Shape}
 use Rattle.tables.specs.declared.fill.Table.{Table}
 use Rattle.tables.proofs.State.{tie-means}
@@ -53,11 +53,11 @@ module _ (table : Table) (v : Shape) (t : ℕ) (s c f d : List ℕ) where
   unfolding choices
   none-count ks e = ap (choices c) e
 
-  none-laid : (x : List ℕ) {ks out : List ℕ} {a : ℕ} {out′ : List ℕ} {z : ℕ} → ks ≡ [] → Laid (places table) 1 (λ i e. Entry table f d v x e) out a out′ z
-      → Laid (places table) (choices c ks) (Choices table v t s c f d ks x) out a out′ z
+  none-laid : (x : List ℕ) {ks out : List ℕ} {a : ℕ} {out′ : List ℕ} {z : ℕ} → ks ≡ [] → Laid (entry-size table) 1 (λ i e. Entry table f d v x e) out a out′ z
+      → Laid (entry-size table) (choices c ks) (Choices table v t s c f d ks x) out a out′ z
   unfolding picked tied choices
   none-laid x {ks} {out} {a} {out′} {z} e h =
-      subst (λ ks. Laid (places table) (choices c ks) (Choices table v t s c f d ks x) out a out′ z) (sym e) (laid-map h (λ i l b q rs r n. q))
+      subst (λ ks. Laid (entry-size table) (choices c ks) (Choices table v t s c f d ks x) out a out′ z) (sym e) (laid-map h (λ i l b q rs r n. q))
 
   -- ── the ranks of a slot, whose kind is k; ks are the kinds behind it ──
   -- the entries of rank r stand behind those of the ranks before it
@@ -77,15 +77,15 @@ module _ (table : Table) (v : Shape) (t : ℕ) (s c f d : List ℕ) where
 module _ {table : Table} {v : Shape} {t : ℕ} {s c f d x out : List ℕ} {a : ℕ} (h : Asked table v t s c f d x out a) where
   -- ── the last slot is tied ──
   module _ (l : v .arity < t) where
-    pub leaf-asks : InPlace f d v x × Rankable table f d v x × (a + places table ≤ length out)
+    pub leaf-asks : InPlace f d v x × Rankable table f d v x × (a + entry-size table ≤ length out)
     leaf-asks =
         let e = kinds-none v t l in
         let n = none-count table v t s c f d (kinds-from v t) e in
-        let g : a + 1 * places table ≤ length out = rw n at (h .room) in
-        (h .standing, none-rankable table v t s c f d x (kinds-from v t) e (h .rankable), omega (arith, one-mul (places table)))
+        let g : a + 1 * entry-size table ≤ length out = rw n at (h .room) in
+        (h .standing, none-rankable table v t s c f d x (kinds-from v t) e (h .rankable), omega (arith, one-mul (entry-size table)))
 
-    pub leaf-laid : {out′ : List ℕ} {z : ℕ} → Laid (places table) 1 (λ i e. Entry table f d v x e) out a out′ z
-        → Laid (places table) (choices c (kinds-from v t)) (Choices table v t s c f d (kinds-from v t) x) out a out′ z
+    pub leaf-laid : {out′ : List ℕ} {z : ℕ} → Laid (entry-size table) 1 (λ i e. Entry table f d v x e) out a out′ z
+        → Laid (entry-size table) (choices c (kinds-from v t)) (Choices table v t s c f d (kinds-from v t) x) out a out′ z
     leaf-laid k = none-laid table v t s c f d x (kinds-none v t l) k
 
   -- ── the n ranks of slot t, one after another ──
@@ -94,7 +94,7 @@ module _ {table : Table} {v : Shape} {t : ℕ} {s c f d x out : List ℕ} {a : �
     ks = kinds-from v (suc t)
 
     abbrev Turning : List ℕ → ℕ → ℕ → Type 0
-    Turning out′ z r = Blocks (places table) (choices c ks) n (Choices table v t s c f d (kinds-from v t) x) out a out′ z r
+    Turning out′ z r = Blocks (entry-size table) (choices c ks) n (Choices table v t s c f d (kinds-from v t) x) out a out′ z r
 
     all-choices : choices c (kinds-from v t) ≡ n * choices c ks
     unfolding choices
@@ -102,8 +102,8 @@ module _ {table : Table} {v : Shape} {t : ℕ} {s c f d x out : List ℕ} {a : �
 
     pub turn-begun : Turning out a 0
     turn-begun =
-        blocks-begun (places table) (choices c ks) n (Choices table v t s c f d (kinds-from v t) x) out a
-        (subst (λ (m : ℕ). a + m * places table ≤ length out) all-choices (h .room))
+        blocks-begun (entry-size table) (choices c ks) n (Choices table v t s c f d (kinds-from v t) x) out a
+        (subst (λ (m : ℕ). a + m * entry-size table ≤ length out) all-choices (h .room))
 
     pub turn-placed : {r : ℕ} → r < n → kind-of v t * max-members + r < length s
     turn-placed k = let p = h .choose t l in omega (arith, p .there, p .few)
@@ -129,13 +129,13 @@ module _ {table : Table} {v : Shape} {t : ℕ} {s c f d x out : List ℕ} {a : �
 
         -- and what it brings
         pub turn-next : {y : List ℕ} {out″ : List ℕ} {z′ : ℕ} → y ≡ x′
-            → Laid (places table) (choices c (kinds-from v (t + 1))) (Choices table v (t + 1) s c f d (kinds-from v (t + 1)) y) out′ z out″ z′
+            → Laid (entry-size table) (choices c (kinds-from v (t + 1))) (Choices table v (t + 1) s c f d (kinds-from v (t + 1)) y) out′ z out″ z′
             → Turning out″ z′ (r + 1)
         turn-next {y} {out″} {z′} q k =
-            let k′ : Laid (places table) (choices c ks) (Choices table v (suc t) s c f d ks x′) out′ z out″ z′ = rw (q, add-one t) at k in
+            let k′ : Laid (entry-size table) (choices c ks) (Choices table v (suc t) s c f d ks x′) out′ z out″ z′ = rw (q, add-one t) at k in
             blocks-next g m k′
             (subst (λ u. Behind (r * choices c ks) (choices c ks) (Choices table v t s c f d u x) (Choices table v (suc t) s c f d ks x′)) (sym (kinds-step v t l))
             (rank-behind table v t s c f d x (kind-of v t) ks r))
 
-      pub turn-done : n ≤ r → Laid (places table) (choices c (kinds-from v t)) (Choices table v t s c f d (kinds-from v t) x) out a out′ z
+      pub turn-done : n ≤ r → Laid (entry-size table) (choices c (kinds-from v t)) (Choices table v t s c f d (kinds-from v t) x) out a out′ z
       turn-done m = laid-count (blocks-done g m) (sym all-choices)

@@ -14,7 +14,7 @@ use Rattle.chains.specs.State.{code-on}
 use Rattle.ranks.specs.Entries.{labels, entry-bytes, none}
 use Rattle.tables.specs.Sets.{member}
 use Rattle.tables.specs.State.{tidied}
-use Rattle.tables.specs.Fill.{kind-of, width-of, InPlace, Listed, RankOn, ChildRank, ChildRanks, DownBytes, Entry, places, Rankable, Laid}
+use Rattle.tables.specs.Fill.{kind-of, width-of, InPlace, Listed, RankOn, ChildRank, ChildRanks, DownBytes, Entry, entry-size, Rankable, Laid}
 use Rattle.tables.specs.declared.shape.Shape.{Shape}
 use Rattle.tables.specs.declared.fill.Table.{Table}
 use Rattle.tables.proofs.StateTidy.{tidy-state}
@@ -119,9 +119,9 @@ module _ {table known : Table} (e : table ≡ known) where
   pub told-rankable : (f d : List ℕ) (v : Shape) (x : List ℕ) → Rankable table f d v x → Rankable known f d v x
   told-rankable f d v x h = subst (λ t. Rankable t f d v x) e h
 
-  pub told-room : (a : ℕ) {n : ℕ} → a + places table ≤ n → a + places known ≤ n
-  told-room a {n} l = subst (λ t. a + places t ≤ n) e l
+  pub told-room : (a : ℕ) {n : ℕ} → a + entry-size table ≤ n → a + entry-size known ≤ n
+  told-room a {n} l = subst (λ t. a + entry-size t ≤ n) e l
 
-  pub told-laid : (f d : List ℕ) (v : Shape) (x : List ℕ) {out : List ℕ} {a : ℕ} {out′ : List ℕ} {z : ℕ} → Laid (places known) 1 (λ i b. Entry known f d v x b) out a out′ z
-      → Laid (places table) 1 (λ i b. Entry table f d v x b) out a out′ z
-  told-laid f d v x {out} {a} {out′} {z} h = subst (λ t. Laid (places t) 1 (λ i b. Entry t f d v x b) out a out′ z) (sym e) h
+  pub told-laid : (f d : List ℕ) (v : Shape) (x : List ℕ) {out : List ℕ} {a : ℕ} {out′ : List ℕ} {z : ℕ} → Laid (entry-size known) 1 (λ i b. Entry known f d v x b) out a out′ z
+      → Laid (entry-size table) 1 (λ i b. Entry table f d v x b) out a out′ z
+  told-laid f d v x {out} {a} {out′} {z} h = subst (λ t. Laid (entry-size t) 1 (λ i b. Entry t f d v x b) out a out′ z) (sym e) h

@@ -20,3 +20,4 @@ pub mod EntryCounts
 pub mod FillRuns
 pub mod FillEntry
 pub mod FillChoices
+pub mod FillState

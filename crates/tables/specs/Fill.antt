@@ -6,6 +6,7 @@ use Prim.Native.Nat.{ℕ, zero, suc, _+_, _-_, _*_, _≤_, _<_}
 use lib.ListN.{length, getD, take}
 use Rattle.lists.specs.Part.{part, place}
 use Rattle.chains.specs.Limits.{max-settings, max-kids, max-members}
+use Rattle.chains.specs.Grammar.{Grammar, width}
 use Rattle.chains.specs.Labels as labelling
 use Rattle.chains.specs.Labels.{joins}
 use Rattle.chains.specs.State.{code-pairs, code-on}
@@ -14,8 +15,8 @@ use Rattle.book.specs.Reading.{kind-in, Index}
 use Rattle.book.proofs.Accepted.{Accepted}
 use Rattle.ranks.specs.Entries.{choices, choice, labels, entry-bytes, none}
 use Rattle.tables.specs.Sets.{Has, member}
-use Rattle.tables.specs.Entries.{Ranks, picked}
-use Rattle.tables.specs.Memory.{Placed}
+use Rattle.tables.specs.Entries.{Ranks, picked, Upward, Ranked}
+use Rattle.tables.specs.Memory.{Placed, Fine}
 use Rattle.tables.specs.State.{State, Whole, tidied, width-in}
 use Rattle.tables.specs.declared.shape.Shape.{Shape}
 use Rattle.tables.specs.declared.fill.Table.{Table}
@@ -121,9 +122,10 @@ abbrev pub Entry : Table → (f d : List ℕ) → Shape → List ℕ → List �
 Entry Up f d v x e = RankOn f d v 0 x (getD e 0 none)
 Entry Down f d v x e = DownBytes f d v x e
 
-abbrev pub places : Table → ℕ
-places Up = 1
-places Down = entry-bytes
+-- and takes so many places
+abbrev pub entry-size : Table → ℕ
+entry-size Up = 1
+entry-size Down = entry-bytes
 
 -- what is to be ranked can be
 abbrev pub Rankable : Table → (f d : List ℕ) → Shape → List ℕ → Type 0
@@ -163,4 +165,14 @@ pub record Asked (table : Table) (v : Shape) (t : ℕ) (s c f d x out : List ℕ
   pub choose : AllPlaced v s c
   pub within : t ≤ suc (v .arity)
   pub rankable : (rs : List ℕ) → Ranks c (kinds-from v t) rs → Rankable table f d v (chosen v t s (kinds-from v t) rs x)
-  pub room : a + choices c (kinds-from v t) * places table ≤ length out
+  pub room : a + choices c (kinds-from v t) * entry-size table ≤ length out
+
+-- ── the entries of a production of the grammar ──
+-- s and c hold, for each of the first n kinds, exactly what has P
+pub record Exact (n : ℕ) (P : ℕ → ℕ → Type 0) (s c : List ℕ) : Type 0 where
+  pub fine : Fine n P s c
+  pub whole : (k x : ℕ) → k < n → P k x → Has s c k x
+
+-- production p's entries of the up table, by their number among them
+abbrev pub UpRun : Grammar → (s c : List ℕ) → ℕ → ℕ → List ℕ → Type 0
+UpRun G s c p = ByRanks c (G .kids p) (λ rs e. Ranked s c (width G p 0) (G .left p) 0 (Upward G p (picked s (G .kids p) rs)) (getD e 0 none))

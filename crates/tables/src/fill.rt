@@ -8,7 +8,7 @@ ghost use Rattle.chains.specs.Limits.{max-kids, max-members};
 ghost use Rattle.ranks.specs.Entries.{choices, labels, entry-bytes};
 ghost use Rattle.tables.specs.Sets.{member};
 ghost use Rattle.tables.specs.State.{State, tidied};
-ghost use Rattle.tables.specs.Fill.{kind-of, kinds-from, Sized, Ready, tied-once, InPlace, Listed, RankOn, ChildRank, ChildRanks, Rankable, Entry, places, Laid, Choices, Asked};
+ghost use Rattle.tables.specs.Fill.{kind-of, kinds-from, Sized, Ready, tied-once, InPlace, Listed, RankOn, ChildRank, ChildRanks, Rankable, Entry, entry-size, Laid, Choices, Asked};
 use super::labels::LABELS;
 use super::labels::NONE;
 use super::labels::base;
@@ -86,8 +86,8 @@ fn put_labels(s: &[u8; LABELS], out: &mut [u8], at: usize)
 
 // An up entry: the rank of what the state shows on slot 0. The answer is the place behind it.
 fn put_up(v: Shape, s: &[u8; LABELS], sets: &[u32], counts: &[u8], out: &mut [u8], at: usize) -> usize
-    requires { ⌜ InPlace (now sets) (now counts) v (now s) × Rankable Table.Up (now sets) (now counts) v (now s) × (at + places Table.Up ≤ length (now out)) ⌝ }
-    ensures { λ r. ⌜ Laid (places Table.Up) 1 (λ i e. Entry Table.Up (now (sets .entry)) (now (counts .entry)) v (now (s .entry)) e) (now (out .entry)) at (now (out .exit)) r ⌝ }
+    requires { ⌜ InPlace (now sets) (now counts) v (now s) × Rankable Table.Up (now sets) (now counts) v (now s) × (at + entry-size Table.Up ≤ length (now out)) ⌝ }
+    ensures { λ r. ⌜ Laid (entry-size Table.Up) 1 (λ i e. Entry Table.Up (now (sets .entry)) (now (counts .entry)) v (now (s .entry)) e) (now (out .entry)) at (now (out .exit)) r ⌝ }
 {
     out[at] = rank_on(v, 0, s, sets, counts);
     at + 1
@@ -95,8 +95,8 @@ fn put_up(v: Shape, s: &[u8; LABELS], sets: &[u32], counts: &[u8], out: &mut [u8
 
 // A down entry: the labels, then the children's ranks.
 fn put_down(v: Shape, s: &[u8; LABELS], sets: &[u32], counts: &[u8], out: &mut [u8], at: usize) -> usize
-    requires { ⌜ InPlace (now sets) (now counts) v (now s) × Rankable Table.Down (now sets) (now counts) v (now s) × (at + places Table.Down ≤ length (now out)) ⌝ }
-    ensures { λ r. ⌜ Laid (places Table.Down) 1 (λ i e. Entry Table.Down (now (sets .entry)) (now (counts .entry)) v (now (s .entry)) e) (now (out .entry)) at (now (out .exit)) r ⌝ }
+    requires { ⌜ InPlace (now sets) (now counts) v (now s) × Rankable Table.Down (now sets) (now counts) v (now s) × (at + entry-size Table.Down ≤ length (now out)) ⌝ }
+    ensures { λ r. ⌜ Laid (entry-size Table.Down) 1 (λ i e. Entry Table.Down (now (sets .entry)) (now (counts .entry)) v (now (s .entry)) e) (now (out .entry)) at (now (out .exit)) r ⌝ }
 {
     put_labels(s, out, at);
     put_ranks(v, s, sets, counts, out, at + LABELS);
@@ -104,8 +104,8 @@ fn put_down(v: Shape, s: &[u8; LABELS], sets: &[u32], counts: &[u8], out: &mut [
 }
 
 fn put_entry(table: Table, v: Shape, s: &[u8; LABELS], sets: &[u32], counts: &[u8], out: &mut [u8], at: usize) -> usize
-    requires { ⌜ InPlace (now sets) (now counts) v (now s) × Rankable table (now sets) (now counts) v (now s) × (at + places table ≤ length (now out)) ⌝ }
-    ensures { λ r. ⌜ Laid (places table) 1 (λ i e. Entry table (now (sets .entry)) (now (counts .entry)) v (now (s .entry)) e) (now (out .entry)) at (now (out .exit)) r ⌝ }
+    requires { ⌜ InPlace (now sets) (now counts) v (now s) × Rankable table (now sets) (now counts) v (now s) × (at + entry-size table ≤ length (now out)) ⌝ }
+    ensures { λ r. ⌜ Laid (entry-size table) 1 (λ i e. Entry table (now (sets .entry)) (now (counts .entry)) v (now (s .entry)) e) (now (out .entry)) at (now (out .exit)) r ⌝ }
 {
     match table {
         Table::Up => put_up(v, s, sets, counts, out, at),
@@ -147,7 +147,7 @@ fn lay(
     at: usize,
 ) -> usize
     requires { ⌜ Asked table v slot (now sets) (now counts) (now ranked) (now sizes) (now s) (now out) at ⌝ }
-    ensures { λ r. ⌜ Laid (places table) (choices (now (counts .entry)) (kinds-from v slot)) (Choices table v slot (now (sets .entry)) (now (counts .entry)) (now (ranked .entry)) (now (sizes .entry)) (kinds-from v slot) (now (s .entry))) (now (out .entry)) at (now (out .exit)) r ⌝ }
+    ensures { λ r. ⌜ Laid (entry-size table) (choices (now (counts .entry)) (kinds-from v slot)) (Choices table v slot (now (sets .entry)) (now (counts .entry)) (now (ranked .entry)) (now (sizes .entry)) (kinds-from v slot) (now (s .entry))) (now (out .entry)) at (now (out .exit)) r ⌝ }
 {
     if v.arity < slot {
         return put_entry(table, v, s, ranked, sizes, out, at);

@@ -3,7 +3,7 @@ use Prim.Native.Nat.{ℕ, suc, _<_, _-_}
 use native.Mathlib.Omega.{arith}
 use borrow.Author.Needs.{needs}
 use Rattle.ranks.specs.Entries.{choices}
-use Rattle.tables.specs.Fill.{kinds-from, places, Choices}
+use Rattle.tables.specs.Fill.{kinds-from, entry-size, Choices}
 use Rattle.tables.proofs.FillRuns.{Blocks}
 use Rattle.tables.proofs.FillChoices.{leaf-asks, leaf-laid, turn-placed, turn-begun, turn-asks, turn-next, turn-done}
 use borrow.Fn.Kinds.{In}
@@ -28,7 +28,7 @@ lay-below t = and 6 lay-kinds.ps (falls 6 lay-kinds.ps _<_ μ-lay t) lay.Pre
 
 abbrev lay-Inv-loop : lay-lts.InvT-loop
 lay-Inv-loop table v slot s sets counts ranked sizes out₀ at n t₀ to₀ r₀ out t to r =
-    Blocks (places table) (choices counts (kinds-from v (suc slot))) n (Choices table v slot sets counts ranked sizes (kinds-from v slot) s) out₀ at out to r
+    Blocks (entry-size table) (choices counts (kinds-from v (suc slot))) n (Choices table v slot sets counts ranked sizes (kinds-from v slot) s) out₀ at out to r
 
 abbrev lay-μ-loop : lay-lts.MeasureT-loop
 lay-μ-loop table v slot s sets counts ranked sizes out₀ at n t₀ to₀ r₀ out t to r = n - r
