@@ -21,3 +21,4 @@ pub mod FillRuns
 pub mod FillEntry
 pub mod FillChoices
 pub mod FillState
+pub mod FillUp

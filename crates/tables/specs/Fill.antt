@@ -13,7 +13,7 @@ use Rattle.chains.specs.State.{code-pairs, code-on}
 use Rattle.book.specs.Format.{kinds, arity-at}
 use Rattle.book.specs.Reading.{kind-in, Index}
 use Rattle.book.proofs.Accepted.{Accepted}
-use Rattle.ranks.specs.Entries.{choices, choice, labels, entry-bytes, none}
+use Rattle.ranks.specs.Entries.{choices, choice, up-entry, labels, entry-bytes, none}
 use Rattle.tables.specs.Sets.{Has, member}
 use Rattle.tables.specs.Entries.{Ranks, picked, Upward, Ranked}
 use Rattle.tables.specs.Memory.{Placed, Fine}
@@ -176,3 +176,8 @@ pub record Exact (n : ℕ) (P : ℕ → ℕ → Type 0) (s c : List ℕ) : Type 
 -- production p's entries of the up table, by their number among them
 abbrev pub UpRun : Grammar → (s c : List ℕ) → ℕ → ℕ → List ℕ → Type 0
 UpRun G s c p = ByRanks c (G .kids p) (λ rs e. Ranked s c (width G p 0) (G .left p) 0 (Upward G p (picked s (G .kids p) rs)) (getD e 0 none))
+
+-- and all productions' entries, by their number in the table
+abbrev pub UpAll : Grammar → (s c : List ℕ) → ℕ → List ℕ → Type 0
+UpAll G s c i e = (p : ℕ) (rs : List ℕ) → p < G .prods → Ranks c (G .kids p) rs → up-entry G c p rs ≡ i
+    → Ranked s c (width G p 0) (G .left p) 0 (Upward G p (picked s (G .kids p) rs)) (getD e 0 none)
