@@ -12,7 +12,7 @@ ghost use Rattle.tables.specs.Sets.{member};
 ghost use Rattle.tables.specs.Entries.{UpTable};
 ghost use Rattle.tables.specs.Promise.{up-entries, Written};
 ghost use Rattle.tables.specs.State.{State, tidied};
-ghost use Rattle.tables.specs.Fill.{kind-of, kinds-from, Sized, Ready, tied-once, InPlace, Listed, RankOn, ChildRank, ChildRanks, Rankable, Entry, entry-size, Laid, Choices, Asked, Opened, Exact, UpRun};
+ghost use Rattle.tables.specs.Fill.{kind-of, kinds-from, Sized, Ready, tied-once, InPlace, Listed, RankOn, ChildRank, ChildRanks, Rankable, Entry, entry-size, Laid, Choices, Asked, AllAsked, AllChoices, Opened, Exact, UpRun};
 use super::labels::LABELS;
 use super::labels::NONE;
 use super::labels::base;
@@ -172,6 +172,24 @@ fn lay(
         tie_member(v, slot, r, sets, s, &mut t);
         to = lay(table, v, slot + 1, &t, sets, counts, ranked, sizes, out, to);
         r += 1;
+    }
+    to
+}
+
+// The entries of all choices for the children, for each member of the left kind, in order; the answer is the place behind them.
+fn lay_down(v: Shape, s: &[u8; LABELS], sets: &[u32], counts: &[u8], feasible: &[u32], sizes: &[u8], out: &mut [u8], at: usize) -> usize
+    requires { ⌜ AllAsked v (now sets) (now counts) (now feasible) (now sizes) (now s) (now out) at ⌝ }
+    ensures { λ r. ⌜ Laid (entry-size Table.Down) (getD (now (sizes .entry)) (kind-of v 0) 0 * choices (now (counts .entry)) (kinds-from v 1))
+        (AllChoices v (now (sets .entry)) (now (counts .entry)) (now (feasible .entry)) (now (sizes .entry)) (kinds-from v 1) (now (s .entry))) (now (out .entry)) at (now (out .exit)) r ⌝ }
+{
+    let n = members_on(v, 0, sizes);
+    let mut t = [NONE; LABELS];
+    let mut to = at;
+    let mut u = 0;
+    while u < n {
+        tie_member(v, 0, u, feasible, s, &mut t);
+        to = lay(Table::Down, v, 1, &t, sets, counts, feasible, sizes, out, to);
+        u += 1;
     }
     to
 }
