@@ -18,11 +18,10 @@ use Rattle.book.specs.Reading.{told}
 use Rattle.book.proofs.Accepted.{Accepted, told-prods}
 use Rattle.ranks.specs.Entries.{choices, choice, up-start, up-entry, none}
 use Rattle.ranks.proofs.Numbers.{ranks-of, ranks-of-below, choice-ranks-of, up-start-after, up-entry-once, up-entry-below}
-use Rattle.tables.specs.Sets.{member}
 use Rattle.tables.specs.Entries.{Ranks, picked, Upward, Ranked, UpTable}
 use Rattle.tables.specs.Promise.{up-entries, Written}
 use Rattle.tables.specs.State.{based}
-use Rattle.tables.specs.Fill.{kind-of, width-of, kinds-from, ShapeAt, tied, Listed, RankOn, Laid, chosen, Choices, Asked, Opened, Exact, UpRun, UpAll}
+use Rattle.tables.specs.Fill.{kinds-from, ShapeAt, tied, Listed, Laid, chosen, Choices, Asked, Opened, Exact, UpRun, UpAll}
 use Rattle.tables.specs.declared.shape.Shape.{Shape}
 use Rattle.tables.specs.declared.fill.Table.the-variants.{Up}
 use Rattle.tables.proofs.StateBase.{few-settings}
@@ -30,7 +29,7 @@ use Rattle.tables.proofs.StateEntry.{show-says, below-all}
 use Rattle.tables.proofs.Shapes.{kind-is, width-is-of, kids-are}
 use Rattle.tables.proofs.EntryCounts.{opened-base, opened-shape}
 use Rattle.tables.proofs.FillRuns.{Behind, laid-none, laid-then, laid-map, laid-count, laid-each, laid-written}
-use Rattle.tables.proofs.FillState.{picked-long, picked-members, shape-sized, shape-placed, base-ready, up-shows}
+use Rattle.tables.proofs.FillState.{picked-long, picked-members, shape-sized, shape-placed, base-ready, ranked-on, up-shows}
 
 -- ── a production ──
 module _ {b : List ℕ} (a : Accepted b) (p : ℕ) (l : p < prods b) {v : Shape} (h : ShapeAt b (entry b p) v) {s c : List ℕ}
@@ -59,17 +58,6 @@ module _ {b : List ℕ} (a : Accepted b) (p : ℕ) (l : p < prods b) {v : Shape}
         (plausible-sound G (a .lawful) p (code-on 0 (width G p 0) (state rs)) l (picked s ks rs, m, up-says)) in
         rw (kind-is a p l h 0 (omega arith), width-is-of a p l h 0 (omega arith)) w
 
-    up-ranked : {i : ℕ} → RankOn s c v 0 (state rs) i → Ranked s c (width G p 0) (G .left p) 0 (Upward G p (picked s ks rs)) i
-    up-ranked {i} k =
-        let e : kind-of v 0 ≡ G .left p = kind-is a p l h 0 (omega arith) in
-        let w : width-of v 0 ≡ width G p 0 = width-is-of a p l h 0 (omega arith) in
-        let m : member s (G .left p) i ≡ code-on 0 (width G p 0) (state rs)
-        = ap (λ (u : ℕ). member s u i) (sym e) ∙ k .is ∙ ap (λ (n : ℕ). code-on 0 n (state rs)) w in
-        record {
-          below = rw (← e) (k .below);
-          says = subst (λ y. Says (width G p 0) y (λ i k. Upward G p (picked s ks rs) (0, i) (0, k))) (sym m) up-says;
-        }
-
   module _ {out : List ℕ} {z : ℕ} where
     -- what the writing of its entries asks for
     pub up-asked : z + choices c ks ≤ length out → Asked Up v 1 s c s c (based b (entry b p)) out z
@@ -87,7 +75,7 @@ module _ {b : List ℕ} (a : Accepted b) (p : ℕ) (l : p < prods b) {v : Shape}
     up-laid {out′} {y} k =
         let k′ : Laid 1 (choices c ks) (Choices Up v 1 s c s c ks (based b (entry b p))) out z out′ y
         = subst (λ ks. Laid 1 (choices c ks) (Choices Up v 1 s c s c ks (based b (entry b p))) out z out′ y) (kids-are a p l h) k in
-        laid-map k′ (λ i n e q rs r m. up-ranked rs r (q rs r m))
+        laid-map k′ (λ i n e q rs r m. ranked-on a p l h 0 (omega arith) (up-says rs r) (q rs r m))
 
 -- the same, of an entry found at its place, with the state made there
 module _ {b places : List ℕ} (o : Opened b places) {p : ℕ} (l : p < prods b) {v : Shape} (h : ShapeAt b (getD places p 0) v) {s c : List ℕ}

@@ -22,3 +22,4 @@ pub mod FillEntry
 pub mod FillChoices
 pub mod FillState
 pub mod FillUp
+pub mod FillDown
