@@ -35,3 +35,11 @@ pub mod UpwardVisit
 pub mod UpwardSweep
 pub mod DownwardVisit
 pub mod DownwardSweep
+pub mod Shapes
+pub mod EntryCounts
+pub mod FillRuns
+pub mod FillEntry
+pub mod FillChoices
+pub mod FillState
+pub mod FillUp
+pub mod FillDown

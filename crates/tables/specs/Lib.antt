@@ -11,3 +11,4 @@ pub mod Memory
 pub mod Sweep
 pub mod Upward
 pub mod Downward
+pub mod Fill

@@ -11,3 +11,7 @@ pub use blocks::occurrences;
 mod visit;
 mod upward;
 mod downward;
+mod sets;
+mod shape;
+mod totals;
+mod fill;
