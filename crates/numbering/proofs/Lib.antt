@@ -1,0 +1,2 @@
+pub mod Labelled
+pub mod Visits
