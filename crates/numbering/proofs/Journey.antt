@@ -15,7 +15,8 @@ use Rattle.sheet.specs.Reading.{settings-of}
 use Rattle.numbering.specs.Walk.{Tables, ranks, given, numbered, unused, slot-labels, root-entry, root-labels, started, group-numbers, walk, places}
 use Rattle.numbering.specs.Promise.{entry-at}
 use Rattle.numbering.specs.Visits.{Visit, nowhere, rank-of, entry-in, held-in, labels-in, handed, after, arrival, visits, journey, visit}
-use Rattle.numbering.proofs.Labelled.{numbered-long, unused-bounds, slot-labels-long, kinds-width, kid-labels-long}
+use Rattle.numbering.proofs.Labelled.{numbered-long, unused-bounds, slot-labels-long, kid-labels-long}
+use Rattle.numbering.specs.Giving.{kinds-width}
 use Rattle.numbering.proofs.Visits.{owns-of, Seen, visits-long, sub-seen, root-visit, Linked, visits-linked, walk-owns}
 
 -- the settings of lists of nodes, one after another

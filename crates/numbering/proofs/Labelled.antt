@@ -9,6 +9,7 @@ use lib.ListN.{length, length-append}
 use Rattle.lists.specs.Pick.{pick}
 use Rattle.chains.specs.Grammar.{Grammar}
 use Rattle.numbering.specs.Walk.{Tables, Held, holder, holds, held, numbered, unused, slot-labels, kid-labels}
+use Rattle.numbering.specs.Giving.{kinds-width}
 
 pub numbered-long : (hs : List Held) (n : ℕ) (xs : List ℕ) → length (numbered hs n xs) ≡ length xs
 unfolding numbered
@@ -60,11 +61,6 @@ pub slot-labels-long : (T : Tables) (e s a n : ℕ) → length (slot-labels T e 
 unfolding slot-labels
 slot-labels-long T e s a zero = refl
 slot-labels-long T e s a (suc n) = ap suc (slot-labels-long T e s (suc a) n)
-
--- the settings of kinds, one after another
-unfoldable pub kinds-width : Grammar → List ℕ → ℕ
-kinds-width G [] = 0
-kinds-width G (k ∷ ks) = G .settings k + kinds-width G ks
 
 pub kid-labels-long : (G : Grammar) (T : Tables) (e s : ℕ) (ks : List ℕ) → length (kid-labels G T e s ks) ≡ kinds-width G ks
 unfolding kid-labels kinds-width

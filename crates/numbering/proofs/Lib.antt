@@ -1,3 +1,5 @@
 pub mod Labelled
 pub mod Visits
 pub mod Journey
+pub mod Building
+pub mod Children

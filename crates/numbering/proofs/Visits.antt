@@ -15,7 +15,8 @@ use Rattle.chains.proofs.Nodes.{sub-in}
 use Rattle.sheet.specs.Reading.{settings-of}
 use Rattle.numbering.specs.Walk.{Tables, ranks, entry-of, given, Held, numbered, unused, root-labels, Numbered, started, group-numbers, walk, places}
 use Rattle.numbering.specs.Visits.{Visit, nowhere, rank-of, entry-in, held-in, labels-in, handed, after, arrival, visits, journey, visit}
-use Rattle.numbering.proofs.Labelled.{unused-bounds, slot-labels-long, kinds-width, kid-labels-long}
+use Rattle.numbering.proofs.Labelled.{unused-bounds, slot-labels-long, kid-labels-long}
+use Rattle.numbering.specs.Giving.{kinds-width}
 
 -- a part of the first of two lists
 part-front : {A : Type 0} (p q : List A) (a n : ℕ) → a + n ≤ length p → part a n (p ++ q) ≡ part a n p

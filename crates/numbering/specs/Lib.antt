@@ -1,3 +1,5 @@
 pub mod Walk
 pub mod Promise
 pub mod Visits
+pub mod Parts
+pub mod Giving
