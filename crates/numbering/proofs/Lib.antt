@@ -3,3 +3,8 @@ pub mod Visits
 pub mod Journey
 pub mod Building
 pub mod Children
+pub mod Products
+pub mod Holders
+pub mod Slots
+pub mod Handing
+pub mod Rows
