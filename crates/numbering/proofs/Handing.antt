@@ -20,19 +20,21 @@ pub record Handing (b d w : List ℕ) (e p at kids : ℕ) (ends : List ℕ) (i :
   pub opened : Opened b p at kids
   pub children : Children ends i kids
   pub long : length s ≡ max-nodes
+  pub kept : length s ≡ length s₀
   pub stands : child ≡ child-at ends i j
   pub within : j ≤ kids
   pub low : (k : ℕ) → k < j → child-rank-at w e k < getD d (getD (grammar b .kids p) k 0) 0
   pub gave : (F : ℕ → ℕ) → ((k : ℕ) → k < length (grammar b .kids p) → F (child-at ends i k) ≡ child-rank-at w e k)
       → ((m : ℕ) → getD s₀ m 0 ≡ F m → getD s m 0 ≡ F m) × ((k : ℕ) → k < j → getD s (child-at ends i k) 0 ≡ F (child-at ends i k))
 
-pub handing-none : {b d w : List ℕ} {e p at kids : ℕ} {ends : List ℕ} {i : ℕ} (s : List ℕ) → Opened b p at kids → Children ends i kids → length s ≡ max-nodes
+pub handing-none : {b d w : List ℕ} {e p at kids : ℕ} {ends : List ℕ} {i : ℕ} (s : List ℕ) → Opened b p at kids → Children ends i (length (grammar b .kids p)) → length s ≡ max-nodes
     → Handing b d w e p at kids ends i s s (i + 1) 0
 unfolding child-at
-handing-none s o c l = record {
+handing-none {ends = ends} {i} s o c l = record {
   opened = o;
-  children = c;
+  children = subst (Children ends i) (sym (o .count)) c;
   long = l;
+  kept = refl;
   stands = add-one _;
   within = omega arith;
   low = λ k h. absurd (omega arith);
@@ -54,6 +56,7 @@ module _ {b d w : List ℕ} {e p at kids : ℕ} {ends : List ℕ} {i : ℕ} {s�
       opened = h .opened;
       children = h .children;
       long = length-set s child r ∙ h .long;
+      kept = length-set s child r ∙ h .kept;
       stands = ev ∙ ap (λ y. getD ends y 0) (h .stands) ∙ ap (child-at ends i) (sym (add-one j));
       within = omega arith;
       low = λ k l. lower k l (ℕ-discrete k j);
@@ -81,12 +84,13 @@ module _ {b d w : List ℕ} {e p at kids : ℕ} {ends : List ℕ} {i : ℕ} {s�
             ap (λ t. getD (set s child r) t 0) st ∙ getD-set-same s child r 0 (omega (arith, handing-inside more, h .long))
             ∙ er ∙ sym (f j here) ∙ ap F (ap (child-at ends i) (sym q))
 
-    pub handing-bad : {x r : ℕ} (t : List ℕ) → x ≡ kid-at b at j → r ≡ child-rank-at w e j → getD d x 0 ≤ r → HandedDown b d w e p ends i s₀ t false
-    handing-bad {x} {r} t ex er lr =
+    pub handing-bad : {x r : ℕ} → x ≡ kid-at b at j → r ≡ child-rank-at w e j → getD d x 0 ≤ r → HandedDown b d w e p ends i s₀ s false
+    handing-bad {x} {r} ex er lr =
         let y : x ≡ getD (grammar b .kids p) j 0 = kid-is (h .opened) j more ex in
-        record { case = (j, here, rw (← y, ← er) lr) }
+        record { kept = h .kept; case = (j, here, rw (← y, ← er) lr) }
 
   pub handing-done : kids ≤ j → HandedDown b d w e p ends i s₀ s true
   handing-done l = record {
+    kept = h .kept;
     case = (λ k m. h .low k (omega (arith, h .opened .count)), λ F f. (h .gave F f .0, λ k m. h .gave F f .1 k (omega (arith, h .opened .count))));
   }

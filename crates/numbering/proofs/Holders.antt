@@ -123,7 +123,7 @@ module _ {s x : ℕ} (n : ℕ) {stamps numbers : List ℕ} (low : x < labels-kno
 
   -- the label is held already: nothing changes
   pub held-again : getD stamps x 0 ≡ s → Held-one s x n stamps numbers stamps numbers 0
-  held-again e = record { more = λ hs h. (again hs e h, rw (h .stamped x low e .0), sym (h .stamped x low e .1 n)) }
+  held-again e = record { stamps-kept = refl; numbers-kept = refl; more = λ hs h. (again hs e h, rw (h .stamped x low e .0), sym (h .stamped x low e .1 n)) }
 
   first : (hs : List Held) → (getD stamps x 0 ≡ s → ⊥) → Holding hs s stamps numbers → Holding (hs ++ (x, n) ∷ []) s (set stamps x s) (set numbers x n)
   first hs e h = record {
@@ -158,6 +158,8 @@ module _ {s x : ℕ} (n : ℕ) {stamps numbers : List ℕ} (low : x < labels-kno
   -- the label was not held: it is now
   pub held-first : (getD stamps x 0 ≡ s → ⊥) → Held-one s x n stamps numbers (set stamps x s) (set numbers x n) 1
   held-first e = record {
+    stamps-kept = length-set stamps x s;
+    numbers-kept = length-set numbers x n;
     more = λ hs h. (first hs e h, rw (h .blank x low e),
     getD-set-same numbers x n 0 (omega (arith, h .numbers-long)) ∙ sym (holder-none x hs n (h .blank x low e)));
   }

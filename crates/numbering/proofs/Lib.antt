@@ -8,3 +8,5 @@ pub mod Holders
 pub mod Slots
 pub mod Handing
 pub mod Rows
+pub mod Trees
+pub mod Families

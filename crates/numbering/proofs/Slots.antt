@@ -6,8 +6,8 @@ use Prim.Native.Nat.{ℕ, zero, suc, _+_, _*_, _≤_, _<_}
 use native.Mathlib.Nat.{add-zero}
 use native.Mathlib.Numerals.{add-one}
 use native.Mathlib.Omega.{arith}
-use lib.ListN.{length, getD, take, drop, set, length-append, length-drop, take-append-drop}
-use lib.Seq.{take-suc, getD-take, getD-drop}
+use lib.ListN.{length, getD, take, drop, set, length-append, length-drop, length-set, take-append-drop}
+use lib.Seq.{take-suc, getD-take, getD-drop, drop-set-lt}
 use Rattle.lists.specs.Pick.{pick}
 use Rattle.lists.specs.Part.{part, place}
 use Rattle.lists.proofs.Parts.{length-part}
@@ -55,13 +55,13 @@ holding-append hs n xs ys =
 -- ── slot 0, whose settings have their numbers ──
 pub own-none : (w : List ℕ) (e at s : ℕ) (g stamps numbers : List ℕ) → Held-own w e 0 at s g stamps numbers stamps numbers
 unfolding slot-labels
-own-none w e at s g stamps numbers = record { all = λ hs c d u h. rw (append-nil hs) h }
+own-none w e at s g stamps numbers = record { stamps-kept = refl; numbers-kept = refl; all = λ hs c d u h. rw (append-nil hs) h }
 
 pub own-turn : {w : List ℕ} {e a at s : ℕ} {g stamps₀ numbers₀ stamps numbers stamps′ numbers′ : List ℕ} {x n r : ℕ}
     → Held-own w e a at s g stamps₀ numbers₀ stamps numbers → a < max-settings → at + a < length g
     → x ≡ label-at w e a → n ≡ getD g (at + a) 0 → Held-one s x n stamps numbers stamps′ numbers′ r
     → Held-own w e (a + 1) at s g stamps₀ numbers₀ stamps′ numbers′
-own-turn {w} {e} {a} {at} {s} {g} {stamps₀} {numbers₀} {stamps} {numbers} {stamps′} {numbers′} {x} {n} o l k ex en h = record { all = more }
+own-turn {w} {e} {a} {at} {s} {g} {stamps₀} {numbers₀} {stamps} {numbers} {stamps′} {numbers′} {x} {n} o l k ex en h = record { stamps-kept = h .stamps-kept ∙ o .stamps-kept; numbers-kept = h .numbers-kept ∙ o .numbers-kept; all = more }
   where
     front : length (part at a g) ≡ a
     front = length-part at a g (omega arith)
@@ -85,11 +85,19 @@ own-turn {w} {e} {a} {at} {s} {g} {stamps₀} {numbers₀} {stamps} {numbers} {s
         let done = h .more (hs ++ held xs (part at a g)) (o .all hs c d u q) .0 in
         rw (add-one a, hd, ← append-assoc hs (held xs (part at a g)) ((x, n) ∷ [])) done
 
+pub own-done : {w : List ℕ} {e a width at s : ℕ} {g stamps₀ numbers₀ stamps numbers : List ℕ} → Held-own w e a at s g stamps₀ numbers₀ stamps numbers → a ≡ width
+    → Held-own w e width at s g stamps₀ numbers₀ stamps numbers
+own-done {w} {e} {a} {width} {at} {s} {g} {stamps₀} {numbers₀} {stamps} {numbers} o q = subst (λ n. Held-own w e n at s g stamps₀ numbers₀ stamps numbers) q o
+
 -- ── a slot whose settings get numbers ──
 pub slot-none : (w : List ℕ) (e slot at s next : ℕ) (stamps numbers g : List ℕ) → Slot w e slot 0 at s next stamps numbers g stamps numbers g next
 unfolding slot-labels numbered unused
 slot-none w e slot at s next stamps numbers g = record {
   few = omega arith;
+  stamps-kept = refl;
+  numbers-kept = refl;
+  long = refl;
+  beyond = λ k h. refl;
   given = λ hs c d u h. (rw (append-nil hs) h, refl, sym (rw (add-zero at, append-nil (take at g)) (take-append-drop at g)));
 }
 
@@ -100,6 +108,10 @@ pub slot-turn : {w : List ℕ} {e slot a at s first : ℕ} {stamps₀ numbers₀
 unfolding numbered unused
 slot-turn {w} {e} {slot} {a} {at} {s} {first} {stamps₀} {numbers₀} {g₀} {stamps} {numbers} {g} {stamps′} {numbers′} {x} {next} {r} {v} o k l m ex h lr ev = record {
   few = omega (arith, o .few);
+  stamps-kept = h .stamps-kept ∙ o .stamps-kept;
+  numbers-kept = h .numbers-kept ∙ o .numbers-kept;
+  long = length-set g (at + a) v ∙ o .long;
+  beyond = λ k h. drop-set-lt k g (at + a) v (omega arith) ∙ o .beyond k (omega arith);
   given = more;
 }
   where
@@ -134,3 +146,8 @@ slot-turn {w} {e} {slot} {a} {at} {s} {first} {stamps₀} {numbers₀} {g₀} {s
         let gs : set g (at + a) v ≡ place at (numbered hs first (xs ++ x ∷ [])) g₀
         = ap₂ (λ t i. set t (at + i) v) eg (sym long) ∙ placed g₀ at (numbered hs first xs) (omega arith) v ∙ ap (λ t. place at t g₀) (sym nu) in
         rw ls (rw hd (holding-taken ks x next hold′), un, gs)
+
+pub slot-done : {w : List ℕ} {e slot a width at s first : ℕ} {stamps₀ numbers₀ g₀ stamps numbers g : List ℕ} {next : ℕ}
+    → Slot w e slot a at s first stamps₀ numbers₀ g₀ stamps numbers g next → a ≡ width → Slot w e slot width at s first stamps₀ numbers₀ g₀ stamps numbers g next
+slot-done {w} {e} {slot} {a} {width} {at} {s} {first} {stamps₀} {numbers₀} {g₀} {stamps} {numbers} {g} {next} o q =
+    subst (λ n. Slot w e slot n at s first stamps₀ numbers₀ g₀ stamps numbers g next) q o

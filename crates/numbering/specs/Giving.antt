@@ -38,17 +38,25 @@ pub record Holding (hs : List Held) (s : ℕ) (stamps numbers : List ℕ) : Type
 
 -- one more occurrence, with its label x and the number n; r: 1 where the label was not held before
 pub record Held-one (s x n : ℕ) (stamps numbers stamps′ numbers′ : List ℕ) (r : ℕ) : Type 0 where
+  pub stamps-kept : length stamps′ ≡ length stamps
+  pub numbers-kept : length numbers′ ≡ length numbers
   pub more : (hs : List Held) → Holding hs s stamps numbers
       → Holding (hs ++ (x, n) ∷ []) s stamps′ numbers′ × (r ≡ pick (holds x hs) 0 1) × (getD numbers′ x 0 ≡ holder x hs n)
 
 -- slot 0 of a node, whose width settings have their numbers in g from the place at on
 pub record Held-own (w : List ℕ) (e width at s : ℕ) (g stamps numbers stamps′ numbers′ : List ℕ) : Type 0 where
+  pub stamps-kept : length stamps′ ≡ length stamps
+  pub numbers-kept : length numbers′ ≡ length numbers
   pub all : (hs : List Held) (c d u : List ℕ) → Holding hs s stamps numbers
       → Holding (hs ++ held (slot-labels (tables c d u w) e 0 0 width) (part at width g)) s stamps′ numbers′
 
 -- a slot's settings, numbered and put into g from the place at on
 pub record Slot (w : List ℕ) (e slot width at s next : ℕ) (stamps numbers g stamps′ numbers′ g′ : List ℕ) (r : ℕ) : Type 0 where
   pub few : r ≤ next + width
+  pub stamps-kept : length stamps′ ≡ length stamps
+  pub numbers-kept : length numbers′ ≡ length numbers
+  pub long : length g′ ≡ length g
+  pub beyond : (k : ℕ) → at + width ≤ k → drop k g′ ≡ drop k g
   pub given : (hs : List Held) (c d u : List ℕ) → Holding hs s stamps numbers →
       let xs = slot-labels (tables c d u w) e slot 0 width in
       Holding (hs ++ held xs (numbered hs next xs)) s stamps′ numbers′ × (r ≡ unused hs next xs) × (g′ ≡ place at (numbered hs next xs) g)
@@ -70,6 +78,8 @@ pub record Kinds (G : Grammar) (l ends : List ℕ) (i p : ℕ) : Type 0 where
 
 -- the settings of the children of node i, numbered; F m are the numbers that node m is to have
 pub record Family (G : Grammar) (l w : List ℕ) (e p : ℕ) (ends : List ℕ) (i s next : ℕ) (stamps numbers g stamps′ numbers′ g′ : List ℕ) (r : ℕ) : Type 0 where
+  pub stamps-kept : length stamps′ ≡ length stamps
+  pub numbers-kept : length numbers′ ≡ length numbers
   pub long : length g′ ≡ length g
   pub beyond : drop (settings-of G l) g′ ≡ drop (settings-of G l) g
   pub given : (hs : List Held) (c d u : List ℕ) → Holding hs s stamps numbers →

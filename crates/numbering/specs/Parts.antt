@@ -89,6 +89,8 @@ UpIs G T f plausible ends All = NoBadUp G T f 0 × Ranked G T f 0 0 plausible ×
 UpIs G T f plausible ends (Bad i) = ((q : ℕ) × (ds : Bush) × Sub f 0 i q ds × BadUp G T q ds) × NoBadUp G T f (suc i)
 
 pub record UpReads (b l c u plausible ends : List ℕ) (r : Reads) : Type 0 where
+  pub plausible-long : length plausible ≡ max-nodes
+  pub ends-long : length ends ≡ max-nodes
   pub case : (t : TreeOf (grammar b) l) (d w : List ℕ) → UpIs (grammar b) (tables c d u w) (t .tree) plausible ends r
 
 -- ── downward ──
@@ -101,6 +103,7 @@ HandedIs G d w e p ends i s s′ true =
 HandedIs G d w e p ends i s s′ false = (j : ℕ) × (j < length (G .kids p)) × (getD d (getD (G .kids p) j 0) 0 ≤ child-rank-at w e j)
 
 pub record HandedDown (b d w : List ℕ) (e p : ℕ) (ends : List ℕ) (i : ℕ) (s s′ : List ℕ) (r : Bool) : Type 0 where
+  pub kept : length s′ ≡ length s
   pub case : HandedIs (grammar b) d w e p ends i s s′ r
 
 -- node m has the feasible rank that the walk gives it
@@ -115,6 +118,7 @@ DownNodeIs G T f i p ends s s′ (down.Entry e) = (e ≡ entry-in G T (visit G T
 DownNodeIs G T f i p ends s s′ down.Bad = BadDown G T p (entry-in G T (visit G T f i))
 
 pub record DownNodeRead (b l c d w plausible ends : List ℕ) (i p : ℕ) (s s′ : List ℕ) (r : DownNode) : Type 0 where
+  pub kept : length s′ ≡ length s
   pub case : (t : TreeOf (grammar b) l) (u : List ℕ) (ds : Bush) → Sub (t .tree) 0 i p ds → Ended (t .tree) 0 0 ends
       → Ranked (grammar b) (tables c d u w) (t .tree) 0 0 plausible → RightRank (grammar b) (tables c d u w) (t .tree) s i
       → DownNodeIs (grammar b) (tables c d u w) (t .tree) i p ends s s′ r
@@ -128,6 +132,8 @@ DownIs G T f feasible entries All = NoBadDown G T f (size f)
 DownIs G T f feasible entries (Bad i) = ((q : ℕ) × (ds : Bush) × Sub f 0 i q ds × BadDown G T q (entry-at G T f i)) × NoBadDown G T f i
 
 pub record DownReads (b l c d w plausible ends s feasible entries : List ℕ) (r : Reads) : Type 0 where
+  pub feasible-long : length feasible ≡ max-nodes
+  pub entries-long : length entries ≡ max-nodes
   pub case : (t : TreeOf (grammar b) l) (u : List ℕ) → Ended (t .tree) 0 0 ends → Ranked (grammar b) (tables c d u w) (t .tree) 0 0 plausible
       → RightRank (grammar b) (tables c d u w) (t .tree) s 0 → DownIs (grammar b) (tables c d u w) (t .tree) feasible entries r
 
@@ -151,4 +157,6 @@ ChoiceIs G T f plausible ends feasible entries (Bad p) =
     (t : ℕ) × Fails G T f (size f) p t × ((p′ t′ : ℕ) → t′ < t → Fails G T f (size f) p′ t′ → ⊥)
 
 pub record Choice (b l c d u w plausible ends feasible entries : List ℕ) (r : Reads) : Type 0 where
+  pub feasible-long : length feasible ≡ max-nodes
+  pub entries-long : length entries ≡ max-nodes
   pub case : (t : TreeOf (grammar b) l) → ChoiceIs (grammar b) (tables c d u w) (t .tree) plausible ends feasible entries r
