@@ -11,9 +11,9 @@ use borrow.Author.Tests.{lt-ltb, le-ltb}
 use Rattle.lists.specs.Pick.{pick}
 use Rattle.chains.specs.Limits.{max-kids, max-nodes}
 use Rattle.chains.specs.Grammar.{Grammar}
-use Rattle.book.specs.Format.{grammar, kinds, prods, entry, arity-at}
-use Rattle.book.specs.Reading.{Index, kid-at}
-use Rattle.book.proofs.Accepted.{Accepted, place-read, arity-read, kid-read}
+use Rattle.book.specs.Format.{grammar, kinds, prods, entry, left-at, arity-at}
+use Rattle.book.specs.Reading.{Index, settings-of, kid-at}
+use Rattle.book.proofs.Accepted.{Accepted, place-read, settings-read, arity-read, kid-read}
 use Rattle.ranks.specs.declared.Plausible.{Plausible}
 use Rattle.ranks.specs.Reads.{numbers}
 use Rattle.ranks.proofs.Padded.{CountsPadded}
@@ -43,6 +43,17 @@ module _ {b : List ℕ} {p at kids : ℕ} (o : Opened b p at kids) where
 
   pub kid-low : {x : ℕ} (j : ℕ) → j < kids → x ≡ kid-at b at j → x < kinds b
   kid-low j h e = omega (arith, kid-is j h e, o .accepted .lawful .kids-in p j (o .known) (omega (arith, o .count)))
+
+-- the left kind of production p, and its settings
+module _ {b places : List ℕ} (x : Indexed b places) {p : ℕ} (known : p < prods b) where
+  pub left-is : {at y : ℕ} → at ≡ getD places p 0 → y ≡ left-at b at → y ≡ grammar b .left p
+  left-is e f = f ∙ ap (left-at b) (e ∙ place-read (x .accepted) (x .index) p known)
+
+  pub left-low : {at y : ℕ} → at ≡ getD places p 0 → y ≡ left-at b at → y < kinds b
+  left-low e f = omega (arith, left-is e f, x .accepted .lawful .left-in p known)
+
+  pub own-width : {at y n : ℕ} → at ≡ getD places p 0 → y ≡ left-at b at → n ≡ settings-of b y → n ≡ grammar b .settings (grammar b .left p)
+  own-width {y = y} e f g = g ∙ settings-read (x .accepted) y ∙ ap (λ k. grammar b .settings k) (left-is e f)
 
 -- ── the loop that gathers the counts ──
 pub record Counting (b c : List ℕ) (p at kids : ℕ) (out : List ℕ) (j : ℕ) : Type 0 where

@@ -10,3 +10,4 @@ pub mod Handing
 pub mod Rows
 pub mod Trees
 pub mod Families
+pub mod Firsts

@@ -82,23 +82,45 @@ module _ {S : ℕ → ℕ} {most n : ℕ} {starts : List ℕ} {next p : ℕ} (k 
   pub summing-done : n ≤ p → (q : ℕ) → q < n → getD starts q 0 ≡ S q
   summing-done h q l = k .built .done q (omega arith)
 
--- the two tables' starts
-module _ (b c : List ℕ) where
-  pub up-none : up-start (grammar b) c 0 ≡ 0
+-- ── the two tables ──
+pub record UpSumming (b c : List ℕ) (n : ℕ) (starts : List ℕ) (next p : ℕ) : Type 0 where
+  pub all : n ≡ prods b
+  pub sums : Summing (up-start (grammar b) c) (256 ^ max-kids) n starts next p
+
+pub up-summing-none : {b c : List ℕ} {n : ℕ} → n ≡ prods b → prods b ≤ max-prods → UpSumming b c n (replicate max-prods 0) 0 0
+unfolding up-start
+up-summing-none {b} {c} e h = record { all = e; sums = summing-none (up-start (grammar b) c) (256 ^ max-kids) _ (omega arith) refl }
+
+module _ {b c : List ℕ} {n : ℕ} {starts : List ℕ} {next p : ℕ} (k : UpSumming b c n starts next p) where
+  pub up-summing-turn : {x : ℕ} {ns : List ℕ} → p < n → CountsPadded max-kids c (grammar b .kids p) ns → x ≡ choices ns (from 0 max-kids) → x ≤ 256 ^ max-kids
+      → UpSumming b c n (set starts p next) (next + x) (p + 1)
   unfolding up-start
-  up-none = refl
+  up-summing-turn h d e l = record { all = k .all; sums = summing-turn (k .sums) h (ap (λ y. up-start (grammar b) c p + y) (sym (choices-padded d) ∙ sym e)) l }
 
-  pub up-next : {x : ℕ} (p : ℕ) {ns : List ℕ} → CountsPadded max-kids c (grammar b .kids p) ns → x ≡ choices ns (from 0 max-kids)
-      → up-start (grammar b) c (suc p) ≡ up-start (grammar b) c p + x
-  unfolding up-start
-  up-next {x} p k e = ap (λ y. up-start (grammar b) c p + y) (sym (choices-padded k) ∙ sym e)
+  pub up-summing-done : n ≤ p → UpStarts b c starts
+  up-summing-done h = record { each = λ q l. summing-done (k .sums) h q (omega (arith, k .all)) }
 
-  module _ (d : List ℕ) where
-    pub down-none : down-start (grammar b) c d 0 ≡ 0
-    unfolding down-start
-    down-none = refl
+pub record DownSumming (b c d : List ℕ) (n : ℕ) (starts : List ℕ) (next p : ℕ) : Type 0 where
+  pub all : n ≡ prods b
+  pub sums : Summing (down-start (grammar b) c d) (256 * 256 ^ max-kids) n starts next p
 
-    pub down-next : {x y : ℕ} (p : ℕ) {ns : List ℕ} → CountsPadded max-kids c (grammar b .kids p) ns → x ≡ choices ns (from 0 max-kids)
-        → y ≡ getD d (grammar b .left p) 0 → down-start (grammar b) c d (suc p) ≡ down-start (grammar b) c d p + y * x
-    unfolding down-start
-    down-next {x} {y} p k e f = ap (λ z. down-start (grammar b) c d p + z) (ap₂ _*_ (sym f) (sym (choices-padded k) ∙ sym e))
+pub down-summing-none : {b c d : List ℕ} {n : ℕ} → n ≡ prods b → prods b ≤ max-prods → DownSumming b c d n (replicate max-prods 0) 0 0
+unfolding down-start
+down-summing-none {b} {c} {d} e h = record { all = e; sums = summing-none (down-start (grammar b) c d) (256 * 256 ^ max-kids) _ (omega arith) refl }
+
+-- a feasible rank before a choice
+pub product-small : {x y m : ℕ} → y < 256 → x ≤ m → y * x ≤ 256 * m
+product-small h k = mul-le-mul (omega arith) k
+
+module _ {b c d : List ℕ} {n : ℕ} {starts : List ℕ} {next p : ℕ} (k : DownSumming b c d n starts next p) where
+  pub down-summing-turn : {x y kind : ℕ} {ns : List ℕ} → p < n → CountsPadded max-kids c (grammar b .kids p) ns → x ≡ choices ns (from 0 max-kids) → x ≤ 256 ^ max-kids
+      → kind ≡ grammar b .left p → y ≡ getD d kind 0 → y < 256 → DownSumming b c d n (set starts p next) (next + y * x) (p + 1)
+  unfolding down-start
+  down-summing-turn {x} {y} h f e l ek ey ly = record {
+    all = k .all;
+    sums = summing-turn (k .sums) h
+        (ap (λ z. down-start (grammar b) c d p + z) (ap₂ _*_ (ap (λ j. getD d j 0) (sym ek) ∙ sym ey) (sym (choices-padded f) ∙ sym e))) (product-small ly l);
+  }
+
+  pub down-summing-done : n ≤ p → DownStarts b c d starts
+  down-summing-done h = record { each = λ q l. summing-done (k .sums) h q (omega (arith, k .all)) }
