@@ -11,3 +11,6 @@ pub mod Rows
 pub mod Trees
 pub mod Families
 pub mod Firsts
+pub mod Standing
+pub mod UpReads
+pub mod DownReads
