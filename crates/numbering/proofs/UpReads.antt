@@ -127,6 +127,12 @@ module _ {b l c u plausible ends : List ℕ} {i : ℕ} (g : UpGoing b l c u plau
           ((getD l (i - 1) 0, n .below, n .is-node, bad), λ m q ds s k. g .read-so-far t d w .0 m q ds s (omega arith));
     }
 
+    pub going-end : {rank : Plausible} {end : ℕ} → r ≡ node.Read rank end → end ≤ max-nodes
+    going-end e =
+        let (n, h) = here t₀ [] [] in
+        let h′ = subst (UpNodeIs (grammar b) (tables c [] u []) (i - 1) (getD l (i - 1) 0) (n .below)) e h in
+        omega (arith, h′ .2, n .inside, g .few)
+
     pub going-turn : {rank : Plausible} {end x : ℕ} → r ≡ node.Read rank end → x ≡ end
         → UpGoing b l c u (set plausible (i - 1) (rank .0)) (set ends (i - 1) x) (i - 1)
     going-turn {rank} {end} {x} e ex = record {
