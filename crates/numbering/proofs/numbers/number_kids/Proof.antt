@@ -1,0 +1,126 @@
+use mathlib.Core.Path.{_≡_, refl, sym, ap, _∙_}
+use Prim.Native.Nat.{_+_, _-_, _*_, _^_, _≤_, _<_}
+use native.Mathlib.Omega.{arith}
+use borrow.Author.Needs.{needs}
+use Rattle.numbering.proofs.Children.{opened}
+use Rattle.numbering.proofs.Families.{Naming, naming-none, naming-inside, naming-narrow, naming-fits, naming-low, naming-turn, naming-done}
+use Rattle.numbering.proofs.numbers.number_kids.Statement.{statement}
+use Rattle.numbering.proofs.numbers.number_kids.Tie as tie
+use Rattle.numbering.proofs.numbers.number_kids.Reads as reads
+use Rattle.numbering.proofs.numbers.number_kids.Lts as lts
+use Rattle.book.proofs.arity.Reads as arity-reads
+use Rattle.book.proofs.kid.Reads as kid-reads
+use Rattle.book.proofs.settings.Reads as settings-reads
+use Rattle.numbering.proofs.numbers.number_slot.Reads as number-slot-reads
+use Rattle.numbering.proofs.span.Reads as span-reads
+use Rattle.numbering.proofs.wide.Reads as wide-reads
+
+abbrev Inv-loop : tie.InvT-loop
+Inv-loop book places sheet p down entry ends firsts i stamp first stamps₀ held₀ groups₀ place kids next₀ child₀ j₀ stamps held groups next child j = 
+    Naming book sheet down entry p place kids ends firsts i stamp first stamps₀ held₀ groups₀ stamps held groups next child j
+
+abbrev μ-loop : tie.MeasureT-loop
+μ-loop book places sheet p down entry ends firsts i stamp first stamps₀ held₀ groups₀ place kids next₀ child₀ j₀ stamps held groups next child j = kids - j
+
+mul-place : tie.Need-mul-place Inv-loop μ-loop
+mul-place c = search needs
+
+element-copy-out-place : tie.Need-element-copy-out-place Inv-loop μ-loop
+element-copy-out-place c = omega (arith, c .before .before .before .before .pre .0 .accepted .few-prods)
+
+arity-requires : tie.Need-arity-requires Inv-loop μ-loop
+arity-requires c κs = search needs
+
+add-child : tie.Need-add-child Inv-loop μ-loop
+add-child c = search needs
+
+loop-holds : tie.Need-loop-holds Inv-loop μ-loop
+loop-holds c = naming-none (opened (c .before .before .before .before .before .before .pre .0) (c .before .before .before .before .before .before .pre .1) refl (c .arity .ensures)) (c .before .before .before .before .before .before .pre .3) (c .before .before .before .before .before .before .pre .4) (c .before .before .before .before .before .before .pre .5) (c .before .before .before .before .before .before .pre .2) (c .before .before .before .before .before .before .pre .6) (c .before .before .before .before .before .before .pre .9) (c .before .before .before .before .before .before .pre .10)
+
+kid-requires : tie.Need-kid-requires Inv-loop μ-loop
+kid-requires c κs = search needs
+
+settings-requires : tie.Need-settings-requires Inv-loop μ-loop
+settings-requires c κs = search needs
+
+wide-requires : tie.Need-wide-requires Inv-loop μ-loop
+wide-requires c κs = search needs
+
+wide-requires-2 : tie.Need-wide-requires-2 Inv-loop μ-loop
+wide-requires-2 c κs = search needs
+
+add-number-slot : tie.Need-add-number-slot Inv-loop μ-loop
+add-number-slot c = search needs
+
+mul-span : tie.Need-mul-span Inv-loop μ-loop
+mul-span c = omega (arith, naming-inside (c .before .before .before .before .before .loop .inv) (c .before .before .before .before .loop-test .taken))
+
+element-copy-out-span : tie.Need-element-copy-out-span Inv-loop μ-loop
+element-copy-out-span c = omega (arith, naming-inside (c .before .before .before .before .before .loop .inv) (c .before .before .before .before .loop-test .taken))
+
+span-requires : tie.Need-span-requires Inv-loop μ-loop
+span-requires c κs = search needs
+
+number-slot-requires : tie.Need-number-slot-requires Inv-loop μ-loop
+number-slot-requires c κs =
+    let n = c .before .before .before .before .before .before .before .before .before .before .loop .inv in
+    let t = c .before .before .before .before .before .before .before .before .before .loop-test .taken in
+    let ex = c .before .before .before .before .before .before .before .before .kid .ensures in
+    let ew = c .before .before .before .before .before .before .wide .ensures .0 ∙ c .before .before .before .before .before .before .before .settings .ensures in
+    let ep = c .before .before .before .span .ensures .0 in
+    (omega (arith, n .opened .few, c .before .before .before .before .before .wide2 .ensures .0), naming-narrow n t ex ew ep, naming-fits n t ex ew ep, naming-low n t ex ew ep, n .stamps-long, n .numbers-long)
+
+mul-span-2 : tie.Need-mul-span-2 Inv-loop μ-loop
+mul-span-2 c = omega (arith, naming-inside (c .before .before .before .before .before .before .before .before .before .before .before .before .before .loop .inv) (c .before .before .before .before .before .before .before .before .before .before .before .before .loop-test .taken))
+
+element-copy-out-span-2 : tie.Need-element-copy-out-span-2 Inv-loop μ-loop
+element-copy-out-span-2 c = omega (arith, naming-inside (c .before .before .before .before .before .before .before .before .before .before .before .before .before .loop .inv) (c .before .before .before .before .before .before .before .before .before .before .before .before .loop-test .taken))
+
+span-requires-2 : tie.Need-span-requires-2 Inv-loop μ-loop
+span-requires-2 c κs = search needs
+
+add-j : tie.Need-add-j Inv-loop μ-loop
+add-j c = search needs
+
+loop-less : tie.Need-loop-less Inv-loop μ-loop
+loop-less c = search needs
+
+loop-again : tie.Need-loop-again Inv-loop μ-loop
+loop-again c =
+    naming-turn (c .before .before .before .before .before .before .before .before .before .before .before .before .before .before .before .loop .inv) (c .before .before .before .before .before .before .before .before .before .before .before .before .before .before .loop-test .taken) (c .before .before .before .before .before .before .before .before .before .before .before .before .before .kid .ensures) (c .before .before .before .before .before .before .before .before .before .before .before .wide .ensures .0 ∙ c .before .before .before .before .before .before .before .before .before .before .before .before .settings .ensures) (c .before .before .before .before .before .before .before .before .span .ensures .0)
+    (ap (λ x. x + 1) (c .before .before .before .before .before .before .before .before .before .before .wide2 .ensures .0)) (c .before .before .before .before .number-slot .ensures) (c .span2 .ensures .0)
+
+same-length : tie.Need-same-length Inv-loop μ-loop
+same-length c = c .before .loop .inv .long
+
+returns : tie.Need-returns Inv-loop μ-loop
+returns c = naming-done (c .before .loop .inv) (c .loop-test .left)
+
+pub number-kids-spec : {M : Type 1} → statement M
+number-kids-spec =
+    tie.close
+    (tie.spec
+    Inv-loop
+    μ-loop
+    mul-place
+    element-copy-out-place
+    arity-requires
+    add-child
+    loop-holds
+    kid-requires
+    settings-requires
+    wide-requires
+    wide-requires-2
+    add-number-slot
+    mul-span
+    element-copy-out-span
+    span-requires
+    number-slot-requires
+    mul-span-2
+    element-copy-out-span-2
+    span-requires-2
+    add-j
+    loop-less
+    loop-again
+    same-length
+    returns)

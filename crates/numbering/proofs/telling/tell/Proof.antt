@@ -1,0 +1,116 @@
+use mathlib.Core.Path.{_≡_, refl, sym, ap, _∙_}
+use Prim.Native.Nat.{_+_, _-_, _*_, _≤_, _<_}
+use native.Mathlib.Omega.{arith}
+use borrow.Author.Needs.{needs}
+use lib.ListN.{length-set}
+use Rattle.numbering.proofs.Rows.{Telling, telling-none, telling-turn, telling-done}
+use Rattle.numbering.proofs.telling.tell.Statement.{statement}
+use Rattle.numbering.proofs.telling.tell.Tie as tie
+use Rattle.numbering.proofs.telling.tell.Reads as reads
+use Rattle.numbering.proofs.telling.tell.Lts as lts
+use Rattle.numbering.proofs.long.Reads as long-reads
+
+abbrev Inv-loop : tie.InvT-loop
+Inv-loop n plausible feasible entries nodes₀ i₀ nodes i = Telling plausible feasible entries nodes₀ n nodes i
+
+abbrev μ-loop : tie.MeasureT-loop
+μ-loop n plausible feasible entries nodes₀ i₀ nodes i = n - i
+
+loop-holds : tie.Need-loop-holds Inv-loop μ-loop
+loop-holds c = telling-none _ _ _ _ _ (omega arith) (omega arith)
+
+element-copy-out-long : tie.Need-element-copy-out-long Inv-loop μ-loop
+element-copy-out-long c = search needs
+
+long-requires : tie.Need-long-requires Inv-loop μ-loop
+long-requires c κs = search needs
+
+mul-nodes : tie.Need-mul-nodes Inv-loop μ-loop
+mul-nodes c = search needs
+
+mul-nodes-2 : tie.Need-mul-nodes-2 Inv-loop μ-loop
+mul-nodes-2 c = search needs
+
+slice-write-nodes : tie.Need-slice-write-nodes Inv-loop μ-loop
+slice-write-nodes c = search needs
+
+element-copy-out-long-2 : tie.Need-element-copy-out-long-2 Inv-loop μ-loop
+element-copy-out-long-2 c = search needs
+
+long-requires-2 : tie.Need-long-requires-2 Inv-loop μ-loop
+long-requires-2 c κs = search needs
+
+mul-nodes-3 : tie.Need-mul-nodes-3 Inv-loop μ-loop
+mul-nodes-3 c = search needs
+
+add-nodes : tie.Need-add-nodes Inv-loop μ-loop
+add-nodes c = search needs
+
+mul-nodes-4 : tie.Need-mul-nodes-4 Inv-loop μ-loop
+mul-nodes-4 c = search needs
+
+slice-write-nodes-2 : tie.Need-slice-write-nodes-2 Inv-loop μ-loop
+slice-write-nodes-2 c = simp length-set (omega arith)
+
+mul-nodes-5 : tie.Need-mul-nodes-5 Inv-loop μ-loop
+mul-nodes-5 c = search needs
+
+element-copy-out-nodes : tie.Need-element-copy-out-nodes Inv-loop μ-loop
+element-copy-out-nodes c = search needs
+
+mul-nodes-6 : tie.Need-mul-nodes-6 Inv-loop μ-loop
+mul-nodes-6 c = search needs
+
+add-nodes-2 : tie.Need-add-nodes-2 Inv-loop μ-loop
+add-nodes-2 c = search needs
+
+mul-nodes-7 : tie.Need-mul-nodes-7 Inv-loop μ-loop
+mul-nodes-7 c = search needs
+
+slice-write-nodes-3 : tie.Need-slice-write-nodes-3 Inv-loop μ-loop
+slice-write-nodes-3 c = simp length-set (omega arith)
+
+add-i : tie.Need-add-i Inv-loop μ-loop
+add-i c = search needs
+
+loop-less : tie.Need-loop-less Inv-loop μ-loop
+loop-less c = search needs
+
+loop-again : tie.Need-loop-again Inv-loop μ-loop
+loop-again c = telling-turn (c .before .before .before .before .before .before .loop .inv) (c .before .before .before .before .before .loop-test .taken) (c .before .before .before .long .ensures .0) (c .before .long2 .ensures .0) refl
+
+same-length : tie.Need-same-length Inv-loop μ-loop
+same-length c = search needs
+
+returns : tie.Need-returns Inv-loop μ-loop
+returns c = telling-done (c .before .loop .inv) (c .loop-test .left)
+
+pub tell-spec : {M : Type 1} → statement M
+tell-spec =
+    tie.close
+    (tie.spec
+    Inv-loop
+    μ-loop
+    loop-holds
+    element-copy-out-long
+    long-requires
+    mul-nodes
+    mul-nodes-2
+    slice-write-nodes
+    element-copy-out-long-2
+    long-requires-2
+    mul-nodes-3
+    add-nodes
+    mul-nodes-4
+    slice-write-nodes-2
+    mul-nodes-5
+    element-copy-out-nodes
+    mul-nodes-6
+    add-nodes-2
+    mul-nodes-7
+    slice-write-nodes-3
+    add-i
+    loop-less
+    loop-again
+    same-length
+    returns)

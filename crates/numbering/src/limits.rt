@@ -1,0 +1,11 @@
+// The limits that the paper sets, as the lengths of what the call works with.
+
+pub const NODES: usize = sheet::limits::MAX_NODES;
+
+pub const PRODUCTIONS: usize = book::limits::MAX_PRODUCTIONS as usize;
+
+// Members of a plausible or a feasible set.
+pub const MEMBERS: u8 = 64;
+
+// A label is any byte.
+pub const LABELS: usize = 256;
