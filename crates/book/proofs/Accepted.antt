@@ -1,19 +1,19 @@
 -- An accepted book: what a check's acceptance says of it, and what its readers may lean on.
 use mathlib.Core.Path.{_≡_, refl, ap, sym, _∙_, Σ-path}
-use mathlib.Core.Logic.{_⊎_, inl, inr}
+use mathlib.Core.Logic.{inl, inr}
 use mathlib.Core.Bool.{Bool, true, false}
 use mathlib.Core.List.{List, [], _∷_, List·Memᴰ, List·Memᴰ·head, List·Memᴰ·tail}
-use Prim.Native.Nat.{ℕ, zero, suc, _+_, _*_, _/_, _%_, _≤_, _<_}
+use Prim.Native.Nat.{ℕ, _+_, _*_, _≤_, _<_}
 use native.Mathlib.Decide.{decLe, decLt, ℕ-discrete}
 use native.Mathlib.Omega.{arith}
 use lib.ListN.{length, getD}
 use borrow.Author.Tests.{lt-ltb}
 use Rattle.lists.specs.Refusals.{accepted}
 use Rattle.chains.specs.Limits.{max-settings, max-kids, max-kinds, max-prods}
-use Rattle.chains.specs.Grammar.{Occ, Tie, Grammar, Heads, slots, Exists, Target, Named, Tied, Lawful}
-use Rattle.book.specs.Format.{edition, kinds, prods, start, trailer, kind-at, Bit, arity-at, pairs-at, bytes-at, next-at, entry, ties-of, occ, Laid, grammar}
+use Rattle.chains.specs.Grammar.{Occ, Tie, slots, Exists, Target, Named, Tied, Lawful}
+use Rattle.book.specs.Format.{edition, kinds, prods, start, trailer, kind-at, Bit, arity-at, pairs-at, next-at, entry, occ, Laid, grammar}
 use Rattle.book.specs.Reading.{told, settings-of, mask-of, kid-at, to-at, from-at, pair-at, kind-in, following, Index}
-use Rattle.book.specs.Refusals.{OutOfRange, Applies, short, other-edition, out-of-range, not-laid, bad-kind, bad-kids, bad-ties, headless, BookDue}
+use Rattle.book.specs.Refusals.{OutOfRange, Applies, other-edition, out-of-range, not-laid, bad-kind, bad-kids, bad-ties, headless, BookDue}
 use Rattle.book.specs.Search.{Stands}
 use Rattle.book.proofs.Decided.{held, true-or-false, laid-decided, exists-decided, target-decided, rises-decided, head-decided}
 use Rattle.book.proofs.Laying as laying
@@ -68,7 +68,8 @@ module _ (b : List ℕ) (none : (n p : ℕ) → Applies b n p → ⊥) where
           other true n = absurd (n refl)
           other false n = refl
 
-      fair : (p : ℕ) → p < prods b → (t : Tie) → List·Memᴰ t (grammar b .ties p) → Exists (grammar b) p (t .0) × Exists (grammar b) p (t .1) × Target (grammar b) p (t .0)
+      fair : (p : ℕ) → p < prods b → (t : Tie) → List·Memᴰ t (grammar b .ties p)
+          → Exists (grammar b) p (t .0) × Exists (grammar b) p (t .1) × Target (grammar b) p (t .0)
       fair p l t m = (
         held (exists-decided (grammar b) p (t .0)) (λ h. none 7 p (bad-ties p l (inl (t, m, inl h)))),
         held (exists-decided (grammar b) p (t .1)) (λ h. none 7 p (bad-ties p l (inl (t, m, inr (inl h))))),

@@ -7,7 +7,7 @@ use lib.ListN.{length, getD, drop, length-drop, List·getD-eq-default}
 use lib.Seq.{length-take-le, getD-take, getD-drop}
 use borrow.Author.Tests.{lt-ltb, le-ltb, eq-eqb, ne-eqb}
 use Rattle.lists.specs.Part.{part}
-use Rattle.book.specs.Format.{trailer, field, left-at}
+use Rattle.book.specs.Format.{trailer, left-at}
 use Rattle.book.specs.Reading.{told, kid-at, kind-in}
 
 pub past-end : (b : List ℕ) (n : ℕ) → length b ≤ n → 0 ≡ getD b n 0

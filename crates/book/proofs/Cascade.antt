@@ -1,17 +1,16 @@
 -- The check, row by row: from what each search found to what is due.
-use mathlib.Core.Path.{_≡_, refl, ap₂, sym, _∙_}
-use mathlib.Core.Logic.{_⊎_, inl, inr}
+use mathlib.Core.Path.{_≡_, _∙_}
+use mathlib.Core.Logic.{inl}
 use mathlib.Core.List.{List, [], _∷_}
-use Prim.Native.Nat.{ℕ, _+_, _≤_, _<_}
+use Prim.Native.Nat.{ℕ, _≤_, _<_}
 use native.Mathlib.Decide.{decLt}
 use native.Mathlib.Omega.{arith}
-use lib.ListN.{length}
-use Rattle.lists.specs.Refusals.{Said, accepted, refused}
+use Rattle.lists.specs.Refusals.{accepted, refused}
 use Rattle.lists.specs.Sought.{Free}
 use Rattle.chains.specs.Limits.{max-kinds}
 use Rattle.book.specs.Format.{kinds, prods, left-at, entry, Laid, grammar}
 use Rattle.book.specs.Refusals.{BadKind, BadKids, BadTies, Headless, BookDue}
-use Rattle.book.specs.Search.{Finds, Told, Opened, Markable}
+use Rattle.book.specs.Search.{Finds, Opened, Markable}
 use Rattle.book.proofs.Laying.{few-kinds}
 use Rattle.book.proofs.Rows.{due-5, due-6, due-7, due-8, due-accepted}
 

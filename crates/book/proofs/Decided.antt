@@ -1,5 +1,5 @@
 -- Each condition of the table can be decided, so one that cannot fail holds.
-use mathlib.Core.Path.{_≡_, refl, sym, _∙_}
+use mathlib.Core.Path.{_≡_, refl}
 use mathlib.Core.Logic.{_⊎_, inl, inr, ⊎-elim}
 use mathlib.Core.Bool.{Bool, true, false}
 use mathlib.Core.List.{List, [], _∷_}
@@ -8,7 +8,7 @@ use native.Mathlib.Decide.{decLe, decLt, ℕ-discrete}
 use native.Mathlib.Omega.{arith}
 use lib.ListN.{length}
 use Rattle.lists.specs.Refusals.{Sooner}
-use Rattle.chains.specs.Grammar.{Occ, Tie, Grammar, Heads, slots, width, Exists, Target, order, Rises}
+use Rattle.chains.specs.Grammar.{Occ, Tie, Grammar, slots, width, Exists, Target, order, Rises}
 use Rattle.book.specs.Format.{kinds, prods, trailer, back-to-kinds, back-to-prods, next-at, Walks, Laid}
 
 pub both : {A B : Type 0} → Dec A → Dec B → Dec (A × B)

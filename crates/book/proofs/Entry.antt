@@ -1,14 +1,12 @@
 -- A production entry that ends before the trailer: what the accessors read of it is what the grammar has.
 use mathlib.Core.Path.{_≡_, refl, ap, ap₂, sym, _∙_}
 use mathlib.Core.List.{List, [], _∷_}
-use Prim.Native.Nat.{ℕ, zero, suc, _+_, _-_, _*_, _/_, _%_, _≤_, _<_}
+use Prim.Native.Nat.{ℕ, zero, suc, _+_, _-_, _*_, _<_}
 use native.Mathlib.Omega.{arith}
-use lib.Dec.{eqb}
 use lib.ListN.{length, getD}
-use borrow.Author.Tests.{eq-eqb, ne-eqb}
-use Rattle.lists.specs.Pick.{pick}
+use borrow.Author.Tests.{ne-eqb}
 use Rattle.chains.specs.Grammar.{Tie}
-use Rattle.book.specs.Format.{trailer, left-at, arity-at, kids-at, pairs-at, bytes-at, next-at, occ, ties-of, Laid}
+use Rattle.book.specs.Format.{left-at, arity-at, kids-at, pairs-at, bytes-at, occ, ties-of}
 use Rattle.book.specs.Reading.{kid-at, to-at, from-at, pair-at, kind-in}
 use Rattle.book.specs.Search.{Stands}
 use Rattle.book.proofs.Bytes.{length-part, getD-part}

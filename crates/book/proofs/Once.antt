@@ -1,8 +1,7 @@
 -- A check of a book has one answer.
-use mathlib.Core.Path.{_≡_, refl, ap, ap₂, sym, _∙_}
+use mathlib.Core.Path.{_≡_, refl}
 use mathlib.Core.List.{List, [], _∷_}
 use Prim.Native.Nat.{ℕ}
-use Rattle.lists.specs.Refusals.{Said, accepted, refused}
 use Rattle.lists.proofs.Refusals.{Orderly, due-once}
 use Rattle.book.specs.declared.Checked.{Checked}
 use Rattle.book.specs.declared.Checked.the-variants.{Accepted, Refused}

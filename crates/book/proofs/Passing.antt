@@ -8,7 +8,7 @@ use Rattle.book.specs.declared.walk.Row.{Row}
 use Rattle.book.specs.declared.walk.Row.the-variants.{Kids, Ties}
 use Rattle.book.specs.Format.{prods, trailer, next-at, entry, grammar, Laid}
 use Rattle.book.specs.Refusals.{BadKids, BadTies}
-use Rattle.book.specs.Search.{Tells, Finds, Told, Stands, Bad, alone}
+use Rattle.book.specs.Search.{Tells, Finds, Stands, Bad, alone}
 use Rattle.book.proofs.Answers.{Seeking, seek-begins, seek-on, seek-found, seek-ends}
 use Rattle.book.proofs.Laying.{inside}
 use Rattle.book.proofs.Places.{entry-first, entry-next}

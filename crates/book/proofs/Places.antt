@@ -1,8 +1,8 @@
 -- The walk that writes down where each entry stands.
 use mathlib.Core.Path.{_≡_, refl, ap, sym, _∙_}
 use mathlib.Core.List.{List}
-use Prim.Native.Nat.{ℕ, zero, suc, _+_, _-_, _*_, _≤_, _<_, min}
-use native.Mathlib.Decide.{decLe, decLt}
+use Prim.Native.Nat.{ℕ, _+_, _-_, _*_, _≤_, _<_, min}
+use native.Mathlib.Decide.{decLt}
 use native.Mathlib.Numerals.{add-one}
 use native.Mathlib.Omega.{arith}
 use lib.Dec.{ltb}
@@ -11,7 +11,7 @@ use lib.Seq.{getD-set-same, getD-set-other, ext-getD}
 use borrow.Author.Tests.{lt-ltb, le-ltb}
 use Rattle.lists.specs.Pick.{pick}
 use Rattle.chains.specs.Limits.{max-prods}
-use Rattle.book.specs.Format.{trailer, field, back-to-prods, next-at, entry}
+use Rattle.book.specs.Format.{trailer, back-to-prods, next-at, entry}
 use Rattle.book.specs.Reading.{told, Index}
 
 pub entry-first : (b : List ℕ) → entry b 0 ≡ trailer b - back-to-prods b

@@ -1,12 +1,12 @@
 -- The rows of the table: which comes first, and that a check has one answer.
-use mathlib.Core.Path.{_≡_, refl, ap, sym, _∙_}
-use mathlib.Core.Logic.{_⊎_, inl, inr}
+use mathlib.Core.Path.{_≡_, refl}
+use mathlib.Core.Logic.{inl, inr}
 use mathlib.Core.List.{List, [], _∷_}
 use Prim.Native.Nat.{ℕ, zero, suc, _+_, _-_, _≤_, _<_}
 use native.Mathlib.Decide.{decLt}
 use native.Mathlib.Omega.{arith}
 use lib.ListN.{length}
-use Rattle.lists.specs.Refusals.{Said, accepted, refused, Sooner}
+use Rattle.lists.specs.Refusals.{accepted, refused, Sooner}
 use Rattle.lists.specs.Sought.{Free}
 use Rattle.book.specs.Format.{edition, kinds, prods, Laid, grammar}
 use Rattle.book.specs.Refusals.{OutOfRange, BadKind, BadKids, BadTies, Headless, Applies, short, other-edition, out-of-range, not-laid, bad-kind, bad-kids, bad-ties, headless, turn, BookDue}

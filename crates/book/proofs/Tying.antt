@@ -3,7 +3,7 @@ use mathlib.Core.Path.{_≡_, refl, ap, sym, _∙_, subst₂}
 use mathlib.Core.Logic.{_⊎_, inl, inr, ⊎-elim}
 use mathlib.Core.Bool.{Bool, true, false}
 use mathlib.Core.List.{List, [], _∷_, List·Memᴰ, List·Memᴰ·head, List·Memᴰ·tail}
-use Prim.Native.Nat.{ℕ, zero, suc, _+_, _-_, _*_, _/_, _%_, _^_, _≤_, _<_}
+use Prim.Native.Nat.{ℕ, zero, suc, _+_, _/_, _%_, _^_, _≤_, _<_}
 use native.Mathlib.Decide.{decLt, ℕ-discrete}
 use native.Mathlib.Numerals.{add-one}
 use native.Mathlib.Omega.{arith}
@@ -12,8 +12,8 @@ use lib.ListN.{length, getD}
 use borrow.Author.Count.{below-more}
 use borrow.Author.Tests.{eq-eqb, ne-eqb, eqb-true, eqb-false}
 use Rattle.lists.specs.Refusals.{Sooner}
-use Rattle.chains.specs.Grammar.{Occ, Tie, Grammar, slots, width, Exists, Target, Rises, order}
-use Rattle.book.specs.Format.{left-at, arity-at, kids-at, pairs-at, bytes-at, ties-of, occ, Bit, grammar}
+use Rattle.chains.specs.Grammar.{Tie, slots, width, Exists, Target, Rises, order}
+use Rattle.book.specs.Format.{left-at, arity-at, pairs-at, bytes-at, ties-of, occ, grammar}
 use Rattle.book.specs.Reading.{settings-of, mask-of, kind-in, to-at, from-at, pair-at}
 use Rattle.book.specs.Refusals.{BadTies}
 use Rattle.book.specs.Search.{Tells, Stands, alone, Fair, Climbs}
@@ -166,7 +166,9 @@ ties-go {b} {at} {i} t l f c = record {
 module _ {b : List ℕ} {at : ℕ} (s : Stands b at) where
   -- a pair that is not fair fails in one of the three
   pub unfair : (i : ℕ) → i < pairs-at b at → (Fair b at i → ⊥) → BadTies (alone b at) 0
-  unfair i l n = inl (pair-at b at i, rw (tie-is s i l) (tie-member (ties-of (bytes-at b at)) i (omega (arith, ties-count s))), which (exists-decided (alone b at) 0 (pair-at b at i .0)) (exists-decided (alone b at) 0 (pair-at b at i .1)))
+  unfair i l n =
+      let m : List·Memᴰ (pair-at b at i) (ties-of (bytes-at b at)) = rw (tie-is s i l) (tie-member (ties-of (bytes-at b at)) i (omega (arith, ties-count s))) in
+      inl (pair-at b at i, m, which (exists-decided (alone b at) 0 (pair-at b at i .0)) (exists-decided (alone b at) 0 (pair-at b at i .1)))
     where
       which : Dec (Exists (alone b at) 0 (pair-at b at i .0)) → Dec (Exists (alone b at) 0 (pair-at b at i .1))
           → (Exists (alone b at) 0 (pair-at b at i .0) → ⊥) ⊎ (Exists (alone b at) 0 (pair-at b at i .1) → ⊥) ⊎ (Target (alone b at) 0 (pair-at b at i .0) → ⊥)

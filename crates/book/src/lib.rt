@@ -13,7 +13,7 @@ mod walk;
 ghost use mathlib.Core.Path.{_≡_};
 ghost use Prim.Native.Nat.{_+_, _*_, _/_, _%_, _<_, _≤_, min};
 ghost use lib.ListN.{length, getD};
-ghost use Rattle.book.specs.Format.{arity-at, left-at, pairs-at, next-at, entry, prods};
+ghost use Rattle.book.specs.Format.{arity-at, left-at, pairs-at, next-at, entry};
 ghost use Rattle.chains.specs.Limits.{max-prods};
 ghost use Rattle.book.specs.Reading.{told, settings-of, mask-of, kid-at, kind-in, to-at, from-at, following, Index};
 ghost use Rattle.book.specs.Refusals.{BookDue};

@@ -6,13 +6,13 @@ use Rattle.book.proofs.byte.Statement.{statement}
 use Rattle.book.proofs.byte.Tie as tie
 
 returns : tie.Need-returns
-returns c = past-end (c .before .args .book .now) (c .before .args .at + c .before .args .off) (omega arith)
+returns c = let a = c .before .args in past-end (a .book .now) (a .at + a .off) (omega arith)
 
 sub-if2 : tie.Need-sub-if2
 sub-if2 c = search needs
 
 returns-2 : tie.Need-returns-2
-returns-2 c = past-end (c .before .before .args .book .now) (c .before .before .args .at + c .before .before .args .off) (omega arith)
+returns-2 c = let a = c .before .before .args in past-end (a .book .now) (a .at + a .off) (omega arith)
 
 add-result : tie.Need-add-result
 add-result c = search needs

@@ -51,13 +51,19 @@ kinds-requires : tie.Need-kinds-requires
 kinds-requires c κs = search needs
 
 cast-check-entries : tie.Need-cast-check-entries
-cast-check-entries c = let b = c .before .before .before .before .before .before .before .before .before .args .book .now in omega (arith, c .kinds .ensures, told-is b 1 (c .before .before .before .before .before .before .before .if1 .left), few-kinds b (c .before .before .before .before .out-of-range .ensures .fails (c .before .before .before .if3 .left)))
+cast-check-entries c =
+    let b = c .before .before .before .before .before .before .before .before .before .args .book .now in
+    let few = few-kinds b (c .before .before .before .before .out-of-range .ensures .fails (c .before .before .before .if3 .left)) in
+    omega (arith, c .kinds .ensures, told-is b 1 (c .before .before .before .before .before .before .before .if1 .left), few)
 
 productions-requires : tie.Need-productions-requires
 productions-requires c κs = search needs
 
 cast-check-entries-2 : tie.Need-cast-check-entries-2
-cast-check-entries-2 c = let b = c .before .before .before .before .before .before .before .before .before .before .args .book .now in omega (arith, c .productions .ensures, told-is b 2 (c .before .before .before .before .before .before .before .before .if1 .left), few-prods b (c .before .before .before .before .before .out-of-range .ensures .fails (c .before .before .before .before .if3 .left)))
+cast-check-entries-2 c =
+    let b = c .before .before .before .before .before .before .before .before .before .before .args .book .now in
+    let few = few-prods b (c .before .before .before .before .before .out-of-range .ensures .fails (c .before .before .before .before .if3 .left)) in
+    omega (arith, c .productions .ensures, told-is b 2 (c .before .before .before .before .before .before .before .before .if1 .left), few)
 
 start-requires : tie.Need-start-requires
 start-requires c κs = search needs

@@ -5,7 +5,7 @@ use Rattle.book.proofs.field.Statement.{statement}
 use Rattle.book.proofs.field.Tie as tie
 
 returns : tie.Need-returns
-returns c = told-none (c .before .before .args .book .now) (c .before .before .args .i) (omega arith)
+returns c = let a = c .before .before .args in told-none (a .book .now) (a .i) (omega arith)
 
 mul-at : tie.Need-mul-at
 mul-at c = search needs
@@ -35,7 +35,9 @@ add-result : tie.Need-add-result
 add-result c = search needs
 
 returns-2 : tie.Need-returns-2
-returns-2 c = told-field (c .before .before .before .before .before .before .args .book .now) (c .before .before .before .before .before .before .args .i) (omega arith) (omega arith) (omega arith) (c .before .before .word .ensures .0) (c .word2 .ensures .0)
+returns-2 c =
+    let a = c .before .before .before .before .before .before .args in
+    told-field (a .book .now) (a .i) (omega arith) (omega arith) (omega arith) (c .before .before .word .ensures .0) (c .word2 .ensures .0)
 
 pub field-spec : {M : Type 1} → statement M
 field-spec =

@@ -17,25 +17,29 @@ left-requires : tie.Need-left-requires Inv-loop μ-loop
 left-requires c κs = search needs
 
 returns : tie.Need-returns Inv-loop μ-loop
-returns c = tells-yes (alien-left (c .before .before .before .pre .0) (c .before .before .before .pre .1) (omega arith))
+returns c = let s = c .before .before .before .pre in tells-yes (alien-left (s .0) (s .1) (omega arith))
 
 arity-requires : tie.Need-arity-requires Inv-loop μ-loop
 arity-requires c κs = search needs
 
 returns-2 : tie.Need-returns-2 Inv-loop μ-loop
-returns-2 c = tells-yes (many-kids (c .before .before .before .before .before .pre .0) (c .before .before .before .before .before .pre .1) (omega arith))
+returns-2 c = let s = c .before .before .before .before .before .pre in tells-yes (many-kids (s .0) (s .1) (omega arith))
 
 loop-holds : tie.Need-loop-holds Inv-loop μ-loop
-loop-holds c = kin-begins (c .before .before .before .before .before .pre .0) (c .before .before .before .before .before .pre .1) (omega arith) (omega arith)
+loop-holds c = let s = c .before .before .before .before .before .pre in kin-begins (s .0) (s .1) (omega arith) (omega arith)
 
 kid-requires : tie.Need-kid-requires Inv-loop μ-loop
 kid-requires c κs = search needs
 
 returns-3 : tie.Need-returns-3 Inv-loop μ-loop
-returns-3 c = tells-yes (alien-kid (c .before .before .before .before .before .before .before .before .before .pre .0) (c .before .before .before .before .before .before .before .before .before .pre .1) (c .before .before .before .loop .j) (omega arith) (omega arith))
+returns-3 c =
+    let s = c .before .before .before .before .before .before .before .before .before .pre in
+    tells-yes (alien-kid (s .0) (s .1) (c .before .before .before .loop .j) (omega arith) (omega arith))
 
 returns-4 : tie.Need-returns-4 Inv-loop μ-loop
-returns-4 c = tells-yes (start-kid (c .before .before .before .before .before .before .before .before .before .before .pre .0) (c .before .before .before .before .before .before .before .before .before .before .pre .1) (c .before .before .before .before .loop .j) (omega arith) (omega arith))
+returns-4 c =
+    let s = c .before .before .before .before .before .before .before .before .before .before .pre in
+    tells-yes (start-kid (s .0) (s .1) (c .before .before .before .before .loop .j) (omega arith) (omega arith))
 
 add-j : tie.Need-add-j Inv-loop μ-loop
 add-j c = search needs
@@ -44,10 +48,14 @@ loop-less : tie.Need-loop-less Inv-loop μ-loop
 loop-less c = search needs
 
 loop-again : tie.Need-loop-again Inv-loop μ-loop
-loop-again c = kin-grows (c .before .before .before .before .before .before .before .before .before .before .pre .0) (c .before .before .before .before .before .before .before .before .before .before .pre .1) (c .before .before .before .before .loop .inv) (omega arith) (omega arith) (λ e. c .if4 .left (c .before .before .kid .ensures ∙ e))
+loop-again c =
+    let s = c .before .before .before .before .before .before .before .before .before .before .pre in
+    kin-grows (s .0) (s .1) (c .before .before .before .before .loop .inv) (omega arith) (omega arith) (λ e. c .if4 .left (c .before .before .kid .ensures ∙ e))
 
 returns-5 : tie.Need-returns-5 Inv-loop μ-loop
-returns-5 c = tells-no (kin-fair (c .before .before .before .before .before .before .before .pre .0) (c .before .before .before .before .before .before .before .pre .1) (c .before .loop .inv) (omega arith))
+returns-5 c =
+    let s = c .before .before .before .before .before .before .before .pre in
+    tells-no (kin-fair (s .0) (s .1) (c .before .loop .inv) (omega arith))
 
 pub bad-kids-spec : {M : Type 1} → statement M
 bad-kids-spec =

@@ -28,7 +28,9 @@ array-read-if1 : tie.Need-array-read-if1 Inv-loop μ-loop
 array-read-if1 c = search needs
 
 returns : tie.Need-returns Inv-loop μ-loop
-returns c = seek-found (c .before .before .before .loop .inv) (c .before .before .loop-test .taken) (mark-tells (c .before .before .before .before .marks .ensures) (c .before .before .before .before .before .before .pre .0 .prods-told) (c .before .wide .ensures .0) (omega arith)) (eq-eqb _ _ (c .if1 .taken))
+returns c =
+    let mark = mark-tells (c .before .before .before .before .marks .ensures) (c .before .before .before .before .before .before .pre .0 .prods-told) (c .before .wide .ensures .0) (omega arith) in
+    seek-found (c .before .before .before .loop .inv) (c .before .before .loop-test .taken) mark (eq-eqb _ _ (c .if1 .taken))
 
 add-k : tie.Need-add-k Inv-loop μ-loop
 add-k c = search needs
@@ -37,7 +39,9 @@ loop-less : tie.Need-loop-less Inv-loop μ-loop
 loop-less c = search needs
 
 loop-again : tie.Need-loop-again Inv-loop μ-loop
-loop-again c = seek-on (c .before .before .before .loop .inv) (c .before .before .loop-test .taken) (mark-tells (c .before .before .before .before .marks .ensures) (c .before .before .before .before .before .before .pre .0 .prods-told) (c .before .wide .ensures .0) (omega arith)) (ne-eqb _ _ (c .if1 .left))
+loop-again c =
+    let mark = mark-tells (c .before .before .before .before .marks .ensures) (c .before .before .before .before .before .before .pre .0 .prods-told) (c .before .wide .ensures .0) (omega arith) in
+    seek-on (c .before .before .before .loop .inv) (c .before .before .loop-test .taken) mark (ne-eqb _ _ (c .if1 .left))
 
 returns-2 : tie.Need-returns-2 Inv-loop μ-loop
 returns-2 c = seek-ends (c .before .loop .inv) (c .loop-test .left)

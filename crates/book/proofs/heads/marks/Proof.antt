@@ -37,7 +37,9 @@ loop-less : tie.Need-loop-less Inv-loop μ-loop
 loop-less c = search needs
 
 loop-again : tie.Need-loop-again Inv-loop μ-loop
-loop-again c = marking-goes (c .before .before .before .before .loop .inv) (c .before .before .before .loop-test .taken) (c .before .wide .ensures .0 ∙ c .before .before .left .ensures) (c .step .ensures .0)
+loop-again c =
+    let head = c .before .wide .ensures .0 ∙ c .before .before .left .ensures in
+    marking-goes (c .before .before .before .before .loop .inv) (c .before .before .before .loop-test .taken) head (c .step .ensures .0)
 
 returns : tie.Need-returns Inv-loop μ-loop
 returns c = marking-ends (c .before .loop .inv) (c .loop-test .left)

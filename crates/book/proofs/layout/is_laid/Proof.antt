@@ -38,7 +38,9 @@ add-if2 : tie.Need-add-if2
 add-if2 c = search needs
 
 returns-2 : tie.Need-returns-2
-returns-2 c = let b = c .before .before .before .before .before .before .before .before .before .args .book .now in tells-no (λ l. omega (arith, told-is b 5 (omega arith), told-is b 1 (omega arith)))
+returns-2 c =
+    let b = c .before .before .before .before .before .before .before .before .before .args .book .now in
+    tells-no (λ l. omega (arith, told-is b 5 (omega arith), told-is b 1 (omega arith)))
 
 productions-requires : tie.Need-productions-requires
 productions-requires c κs = search needs
@@ -50,12 +52,14 @@ walks-requires : tie.Need-walks-requires
 walks-requires c κs = search needs
 
 returns-3 : tie.Need-returns-3
-returns-3 c = let b = c .before .before .before .before .before .before .before .before .before .before .before .args .book .now in
+returns-3 c =
+    let b = c .before .before .before .before .before .before .before .before .before .before .before .args .book .now in
     let k = told-is b 4 (omega arith) in
     let p = told-is b 5 (omega arith) in
     let n = told-is b 1 (omega arith) in
     let m = told-is b 2 (omega arith) in
-    laid-by-walk b (c .before .productions .result) (length b - 12 - c .before .before .before .before .before .span2 .result) (c .walks .ensures) (omega arith) (omega arith) (omega arith) (omega arith) (omega arith)
+    let at = length b - 12 - c .before .before .before .before .before .span2 .result in
+    laid-by-walk b (c .before .productions .result) at (c .walks .ensures) (omega arith) (omega arith) (omega arith) (omega arith) (omega arith)
 
 pub is-laid-spec : {M : Type 1} → statement M
 is-laid-spec =

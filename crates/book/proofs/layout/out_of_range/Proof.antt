@@ -10,29 +10,41 @@ kinds-requires : tie.Need-kinds-requires
 kinds-requires c κs = search needs
 
 returns : tie.Need-returns
-returns c = let b = c .before .before .before .args .book .now in tells-yes (inl (omega (arith, told-is b 1 (omega arith))))
+returns c =
+    let h = told-is (c .before .before .before .args .book .now) 1 (omega arith) in
+    tells-yes (inl (omega arith))
 
 returns-2 : tie.Need-returns-2
-returns-2 c = let b = c .before .before .before .before .args .book .now in tells-yes (inr (inl (omega (arith, told-is b 1 (omega arith)))))
+returns-2 c =
+    let h = told-is (c .before .before .before .before .args .book .now) 1 (omega arith) in
+    tells-yes (inr (inl (omega arith)))
 
 productions-requires : tie.Need-productions-requires
 productions-requires c κs = search needs
 
 returns-3 : tie.Need-returns-3
-returns-3 c = let b = c .before .before .before .before .before .before .args .book .now in tells-yes (inr (inr (inl (omega (arith, told-is b 2 (omega arith))))))
+returns-3 c =
+    let h = told-is (c .before .before .before .before .before .before .args .book .now) 2 (omega arith) in
+    tells-yes (inr (inr (inl (omega arith))))
 
 returns-4 : tie.Need-returns-4
-returns-4 c = let b = c .before .before .before .before .before .before .before .args .book .now in tells-yes (inr (inr (inr (inl (omega (arith, told-is b 2 (omega arith)))))))
+returns-4 c =
+    let h = told-is (c .before .before .before .before .before .before .before .args .book .now) 2 (omega arith) in
+    tells-yes (inr (inr (inr (inl (omega arith)))))
 
 start-requires : tie.Need-start-requires
 start-requires c κs = search needs
 
 returns-5 : tie.Need-returns-5
-returns-5 c = let b = c .before .before .before .before .before .before .before .before .args .book .now in
+returns-5 c =
+    let b = c .before .before .before .before .before .before .before .before .args .book .now in
     let n = told-is b 1 (omega arith) in
     let m = told-is b 2 (omega arith) in
     let s = told-is b 3 (omega arith) in
-    tells-le (c .before .before .before .before .before .before .kinds .result) (c .start .result) (λ h. inr (inr (inr (inr (omega (arith, n, s, c .before .before .before .before .before .before .kinds .ensures, c .start .ensures)))))) (λ h. range-kept b (omega arith) (omega arith) (omega arith) (omega arith) (omega (arith, n, s, c .before .before .before .before .before .before .kinds .ensures, c .start .ensures)))
+    let k = c .before .before .before .before .before .before .kinds .ensures in
+    let e = c .start .ensures in
+    tells-le (c .before .before .before .before .before .before .kinds .result) (c .start .result) (λ h. inr (inr (inr (inr (omega (arith, n, s, k, e))))))
+    (λ h. range-kept b (omega arith) (omega arith) (omega arith) (omega arith) (omega (arith, n, s, k, e)))
 
 pub out-of-range-spec : {M : Type 1} → statement M
 out-of-range-spec =

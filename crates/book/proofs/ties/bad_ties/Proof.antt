@@ -23,13 +23,17 @@ is-fair-requires : tie.Need-is-fair-requires Inv-loop μ-loop
 is-fair-requires c κs = search needs
 
 returns : tie.Need-returns Inv-loop μ-loop
-returns c = tells-yes (unfair (c .before .before .before .before .before .before .pre) (c .before .before .before .loop .i) (omega arith) (c .before .is-fair .ensures .fails (not-true _ (c .if1 .taken))))
+returns c =
+    let unfit = c .before .is-fair .ensures .fails (not-true _ (c .if1 .taken)) in
+    tells-yes (unfair (c .before .before .before .before .before .before .pre) (c .before .before .before .loop .i) (omega arith) unfit)
 
 climbs-requires : tie.Need-climbs-requires Inv-loop μ-loop
 climbs-requires c κs = search needs
 
 returns-2 : tie.Need-returns-2 Inv-loop μ-loop
-returns-2 c = tells-yes (falling (c .before .before .before .before .before .before .before .before .pre) (c .before .before .before .before .before .loop .i) (c .before .climbs .ensures .fails (not-true _ (c .if2 .taken))))
+returns-2 c =
+    let falls = c .before .climbs .ensures .fails (not-true _ (c .if2 .taken)) in
+    tells-yes (falling (c .before .before .before .before .before .before .before .before .pre) (c .before .before .before .before .before .loop .i) falls)
 
 add-i : tie.Need-add-i Inv-loop μ-loop
 add-i c = search needs
@@ -38,7 +42,9 @@ loop-less : tie.Need-loop-less Inv-loop μ-loop
 loop-less c = search needs
 
 loop-again : tie.Need-loop-again Inv-loop μ-loop
-loop-again c = ties-go (c .before .before .before .before .before .loop .inv) (omega arith) (c .before .before .before .is-fair .ensures .holds (not-false _ (c .before .before .if1 .left))) (c .before .climbs .ensures .holds (not-false _ (c .if2 .left)))
+loop-again c =
+    let fair = c .before .before .before .is-fair .ensures .holds (not-false _ (c .before .before .if1 .left)) in
+    ties-go (c .before .before .before .before .before .loop .inv) (omega arith) fair (c .before .climbs .ensures .holds (not-false _ (c .if2 .left)))
 
 returns-3 : tie.Need-returns-3 Inv-loop μ-loop
 returns-3 c = tells-no (ties-fair (c .before .before .before .before .pre) (c .before .loop .inv) (omega arith))

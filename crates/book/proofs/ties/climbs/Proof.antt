@@ -10,7 +10,7 @@ add-next : tie.Need-add-next
 add-next c = search needs
 
 returns : tie.Need-returns
-returns c = tells-yes (climb-last (c .before .before .args .book .now) (c .before .before .args .at) (c .before .before .args .i) (omega arith))
+returns c = let a = c .before .before .args in tells-yes (climb-last (a .book .now) (a .at) (a .i) (omega arith))
 
 to-requires : tie.Need-to-requires
 to-requires c κs = search needs
@@ -25,13 +25,17 @@ from-requires-2 : tie.Need-from-requires-2
 from-requires-2 c κs = search needs
 
 returns-2 : tie.Need-returns-2
-returns-2 c = climb-equal (c .before .before .before .before .before .before .before .args .book .now) (c .before .before .before .before .before .before .before .args .at) (c .before .before .before .before .before .before .before .args .i) (c .before .before .before .before .to .ensures) (c .before .before .before .to2 .ensures) (omega arith) (c .before .before .if2 .taken) (c .before .from .ensures) (c .from2 .ensures)
+returns-2 c =
+    let a = c .before .before .before .before .before .before .before .args in
+    climb-equal (a .book .now) (a .at) (a .i) (c .before .before .before .before .to .ensures) (c .before .before .before .to2 .ensures) (omega arith) (c .before .before .if2 .taken) (c .before .from .ensures) (c .from2 .ensures)
 
 to-requires-3 : tie.Need-to-requires-3
 to-requires-3 c κs = search needs
 
 returns-3 : tie.Need-returns-3
-returns-3 c = climb-other (c .before .before .before .before .before .before .args .book .now) (c .before .before .before .before .before .before .args .at) (c .before .before .before .before .before .before .args .i) (c .before .before .before .to .ensures) (c .to3 .ensures) (omega arith) (λ e. c .before .if2 .left (e ∙ c .to3 .ensures ∙ sym (c .before .before .to2 .ensures)))
+returns-3 c =
+    let a = c .before .before .before .before .before .before .args in
+    climb-other (a .book .now) (a .at) (a .i) (c .before .before .before .to .ensures) (c .to3 .ensures) (omega arith) (λ e. c .before .if2 .left (e ∙ c .to3 .ensures ∙ sym (c .before .before .to2 .ensures)))
 
 pub climbs-spec : {M : Type 1} → statement M
 climbs-spec =

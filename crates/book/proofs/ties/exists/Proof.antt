@@ -25,7 +25,9 @@ settings-requires : tie.Need-settings-requires
 settings-requires c κs = search needs
 
 returns-2 : tie.Need-returns-2
-returns-2 c = exists-tells (c .before .before .before .before .before .before .before .pre) (c .before .before .before .before .before .before .before .args .o) (c .before .before .before .before .before .slot .ensures) (c .before .kind-in .ensures) (c .before .before .setting .ensures) (omega (arith, kids-long (c .before .before .before .before .before .before .before .pre))) (c .settings .ensures)
+returns-2 c =
+    let s = c .before .before .before .before .before .before .before in
+    exists-tells (s .pre) (s .args .o) (c .before .before .before .before .before .slot .ensures) (c .before .kind-in .ensures) (c .before .before .setting .ensures) (omega (arith, kids-long (s .pre))) (c .settings .ensures)
 
 pub exists-spec : {M : Type 1} → statement M
 exists-spec =

@@ -12,7 +12,9 @@ exists-requires : tie.Need-exists-requires
 exists-requires c κs = search needs
 
 returns : tie.Need-returns
-returns c = tells-no (unfair-to (c .before .before .before .before .args .book .now) (c .before .before .before .before .args .at) (c .before .before .before .before .args .i) (c .before .before .to .ensures) (c .before .exists .ensures) (not-true _ (c .if1 .taken)))
+returns c =
+    let a = c .before .before .before .before .args in
+    tells-no (unfair-to (a .book .now) (a .at) (a .i) (c .before .before .to .ensures) (c .before .exists .ensures) (not-true _ (c .if1 .taken)))
 
 from-requires : tie.Need-from-requires
 from-requires c κs = search needs
@@ -21,13 +23,19 @@ exists-requires-2 : tie.Need-exists-requires-2
 exists-requires-2 c κs = search needs
 
 returns-2 : tie.Need-returns-2
-returns-2 c = tells-no (unfair-from (c .before .before .before .before .before .before .before .args .book .now) (c .before .before .before .before .before .before .before .args .at) (c .before .before .before .before .before .before .before .args .i) (c .before .before .before .before .before .to .ensures) (c .before .before .from .ensures) (c .before .exists2 .ensures) (not-true _ (c .if2 .taken)))
+returns-2 c =
+    let a = c .before .before .before .before .before .before .before .args in
+    tells-no (unfair-from (a .book .now) (a .at) (a .i) (c .before .before .before .before .before .to .ensures) (c .before .before .from .ensures) (c .before .exists2 .ensures) (not-true _ (c .if2 .taken)))
 
 is-target-requires : tie.Need-is-target-requires
 is-target-requires c κs = (c .before .before .before .before .before .before .before .pre .0, c .before .before .before .before .exists .ensures .holds (not-false _ (c .before .before .before .if1 .left)))
 
 returns-3 : tie.Need-returns-3
-returns-3 c = fair-target (c .before .before .before .before .before .before .before .before .args .book .now) (c .before .before .before .before .before .before .before .before .args .at) (c .before .before .before .before .before .before .before .before .args .i) (c .before .before .before .before .before .before .to .ensures) (c .before .before .before .from .ensures) (c .before .before .before .before .before .exists .ensures) (not-false _ (c .before .before .before .before .if1 .left)) (c .before .before .exists2 .ensures) (not-false _ (c .before .if2 .left)) (c .is-target .ensures)
+returns-3 c =
+    let a = c .before .before .before .before .before .before .before .before .args in
+    let first = not-false _ (c .before .before .before .before .if1 .left) in
+    let second = not-false _ (c .before .if2 .left) in
+    fair-target (a .book .now) (a .at) (a .i) (c .before .before .before .before .before .before .to .ensures) (c .before .before .before .from .ensures) (c .before .before .before .before .before .exists .ensures) first (c .before .before .exists2 .ensures) second (c .is-target .ensures)
 
 pub is-fair-spec : {M : Type 1} → statement M
 is-fair-spec =

@@ -22,10 +22,18 @@ shr-bit : tie.Need-shr-bit
 shr-bit c = search needs
 
 returns : tie.Need-returns
-returns c = target-of-left (c .before .before .before .before .before .before .pre .0) (c .before .before .before .before .before .before .args .o) (c .before .before .before .before .slot .ensures) (c .before .before .before .kind-in .ensures) (c .before .setting .ensures) (c .before .before .before .before .before .before .pre .1 .0) (and-mask (c .before .before .mask .result / 2 ^ c .before .setting .result) 1 ∙ ap (λ m. m / 2 ^ c .before .setting .result % 2) (c .before .before .mask .ensures)) (c .if1 .taken)
+returns c =
+    let s = c .before .before .before .before .before .before in
+    let i = c .before .setting .result in
+    let bit = and-mask (c .before .before .mask .result / 2 ^ i) 1 ∙ ap (λ m. m / 2 ^ i % 2) (c .before .before .mask .ensures) in
+    target-of-left (s .pre .0) (s .args .o) (c .before .before .before .before .slot .ensures) (c .before .before .before .kind-in .ensures) (c .before .setting .ensures) (s .pre .1 .0) bit (c .if1 .taken)
 
 returns-2 : tie.Need-returns-2
-returns-2 c = target-of-kid (c .before .before .before .before .before .before .pre .0) (c .before .before .before .before .before .before .args .o) (c .before .before .before .before .slot .ensures) (c .before .before .before .kind-in .ensures) (c .before .setting .ensures) (c .before .before .before .before .before .before .pre .1 .0) (and-mask (c .before .before .mask .result / 2 ^ c .before .setting .result) 1 ∙ ap (λ m. m / 2 ^ c .before .setting .result % 2) (c .before .before .mask .ensures)) (c .if1 .left)
+returns-2 c =
+    let s = c .before .before .before .before .before .before in
+    let i = c .before .setting .result in
+    let bit = and-mask (c .before .before .mask .result / 2 ^ i) 1 ∙ ap (λ m. m / 2 ^ i % 2) (c .before .before .mask .ensures) in
+    target-of-kid (s .pre .0) (s .args .o) (c .before .before .before .before .slot .ensures) (c .before .before .before .kind-in .ensures) (c .before .setting .ensures) (s .pre .1 .0) bit (c .if1 .left)
 
 pub is-target-spec : {M : Type 1} → statement M
 is-target-spec =
