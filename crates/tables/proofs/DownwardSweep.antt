@@ -4,7 +4,8 @@ use mathlib.Core.Logic.{_⊎_, inl, inr}
 use mathlib.Core.List.{List}
 use Prim.Native.Nat.{ℕ, zero, suc, _+_, _*_, _≤_, _<_}
 use native.Mathlib.Omega.{arith}
-use lib.ListN.{length, getD}
+use lib.ListN.{length, getD, set, replicate, getD-replicate}
+use Rattle.chains.specs.Limits.{max-prods}
 use Rattle.chains.specs.Plausible.{Plausible}
 use Rattle.chains.specs.Feasible.{Feasible}
 use Rattle.chains.proofs.Feasible.{feasible-sound}
@@ -13,12 +14,13 @@ use Rattle.book.proofs.Accepted.{Accepted}
 use Rattle.tables.specs.Sets.{Has}
 use Rattle.tables.specs.Memory.{Fine, Kept, Turned}
 use Rattle.tables.specs.Visit.{Gathered, OldOr}
-use Rattle.tables.specs.Sweep.{Since}
+use Rattle.tables.specs.Sweep.{Since, total, Attended}
 use Rattle.tables.specs.Downward.{down-step, down-into, down-watch, DownServed, DownMarks, DownSwept, DownClosed}
 use Rattle.tables.specs.declared.sets.Turn.{Turn}
+use Rattle.tables.specs.declared.sets.Turn.the-variants.{Still}
 use Rattle.tables.proofs.Memory.{turned-map, Lasts}
 use Rattle.tables.proofs.Gathering.{turned-widen}
-use Rattle.tables.proofs.Sweeping.{Watches, since-now, since-later, since-earlier}
+use Rattle.tables.proofs.Sweeping.{total-none, total-more, Watches, since-now, since-later, since-earlier, since-closed, spared, attended}
 use Rattle.tables.proofs.UpwardSweep.{members-change}
 
 -- the downward step hangs on the left kind alone: the children's codes are the plausible ones throughout
@@ -47,3 +49,44 @@ module _ {b : List ℕ} (a : Accepted b) (p : ℕ) (l : p < prods b) (s c f₀ d
         → Turned (kinds b) (Feasible (grammar b)) (DownVisit b s c p f₀ d₀ f′ d′ j) f d f′ d′ r
     down-visited w {j} h {r = r} u =
         turned-map r (λ g q. since-earlier w (since-now (down-step b s c p j) feasible (u .kept) g)) (turned-widen (down-sound j h) r u)
+
+-- ---- a production's turn
+module _ {b : List ℕ} (a : Accepted b) (p : ℕ) (l : p < prods b) (s c : List ℕ) {f d : List ℕ} (marks : List ℕ) {mark : ℕ} (g : Fine (kinds b) (Feasible (grammar b)) f d)
+    (old : DownMarks b s c marks f d) (e : mark ≡ getD d (grammar b .left p) 0 + 1) where
+  watched : mark ≡ suc (total d (down-watch b p) 1)
+  watched = omega (arith, total-more d (down-watch b p) 0, total-none d (down-watch b p))
+
+  -- it is passed over
+  pub down-spared : getD marks p 0 ≡ mark → Attended (kinds b) (Feasible (grammar b)) (DownServed b s c p f d f d) (DownMarks b s c marks) f d f d Still
+  down-spared =
+      spared (kinds b) (prods b) (λ q. length (grammar b .kids q)) (λ q. 1) (down-step b s c) (down-into b) (down-watch b) marks l g old watched
+      (λ i h. a .lawful .left-in p l) (λ j h. down-watches b s c p j)
+
+  -- it is served
+  pub down-attended : {f′ d′ marks′ : List ℕ} {r : Turn} → length marks ≡ max-prods → marks′ ≡ set marks p mark
+      → Turned (kinds b) (Feasible (grammar b)) (DownServed b s c p f d f′ d′) f d f′ d′ r
+      → Attended (kinds b) (Feasible (grammar b)) (DownServed b s c p f d f′ d′) (DownMarks b s c marks′) f d f′ d′ r
+  down-attended long m u =
+      attended (kinds b) (prods b) (λ q. length (grammar b .kids q)) (λ q. 1) (down-step b s c) (down-into b) (down-watch b) marks l g old watched
+      (λ q j h k. a .lawful .kids-in q j h k) (omega (arith, a .few-prods)) m u
+
+-- ---- the sweep
+-- what the turn of production p is to bring about, from f₀, d₀ on
+abbrev pub DownTurn : (b s c f₀ d₀ f d : List ℕ) → ℕ → Type 0
+DownTurn b s c f₀ d₀ f d p = p < prods b → DownServed b s c p f₀ d₀ f d
+
+module _ {b : List ℕ} (a : Accepted b) (s c : List ℕ) where
+  pub down-lasts : (f₀ d₀ : List ℕ) → Lasts (kinds b) (DownTurn b s c f₀ d₀)
+  down-lasts f₀ d₀ f d f′ d′ p u o l j h = since-later (a .lawful .kids-in p j l h) (o l j h) u
+
+  pub down-serves : {f₀ d₀ f d f′ d′ : List ℕ} {p : ℕ} → Kept (kinds b) f₀ d₀ f d → DownServed b s c p f d f′ d′ → DownTurn b s c f₀ d₀ f′ d′ p
+  down-serves u o l j h = since-earlier u (o j h)
+
+  -- ---- sweeps until one adds nothing
+  pub down-unmarked : (f d : List ℕ) → DownMarks b s c (replicate max-prods 0) f d
+  down-unmarked f d p l = inl (getD-replicate {A = ℕ} max-prods p 0 0 (omega (arith, a .few-prods)))
+
+  -- THEOREM: a sweep that adds nothing leaves the sets closed under the downward step
+  pub down-closed : {P : ℕ → ℕ → Type 0} {f d f′ d′ : List ℕ} → Fine (kinds b) P f′ d′ → f′ ≡ f → d′ ≡ d → DownSwept b s c f d f′ d′ → DownClosed b s c f′ d′
+  down-closed g e q o p j x l h m =
+      since-closed g (down-watch b p) 1 (λ i k. a .lawful .left-in p l) (down-watches b s c p j) (ap (λ (u : List ℕ). total u (down-watch b p) 1) (sym q)) (o p l j h) x m

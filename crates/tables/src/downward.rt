@@ -154,3 +154,91 @@ fn serve_down(book: &[u8], at: usize, plausible: &[u32], counts: &[u8], feasible
     }
     if added { Turn::Added } else { Turn::Still }
 }
+
+// Production p's turn in a sweep. It is passed over where its left kind has no more feasible groupings than at its last visit: all its results are in.
+fn attend_down(
+    book: &[u8],
+    at: usize,
+    p: usize,
+    marks: &mut [u16],
+    plausible: &[u32],
+    counts: &[u8],
+    feasible: &mut [u32],
+    tally: &mut [u8],
+) -> Turn
+    requires { ⌜ Accepted (now book) × (p < prods (now book)) × (at ≡ entry (now book) p) × (length (now marks) ≡ max-prods)
+        × Fine (kinds (now book)) (Plausible (grammar (now book))) (now plausible) (now counts)
+        × Fine (kinds (now book)) (Feasible (grammar (now book))) (now feasible) (now tally)
+        × DownMarks (now book) (now plausible) (now counts) (now marks) (now feasible) (now tally) ⌝ }
+    ensures { λ r. ⌜ Attended (kinds (now (book .entry))) (Feasible (grammar (now (book .entry))))
+        (DownServed (now (book .entry)) (now (plausible .entry)) (now (counts .entry)) p (now (feasible .entry)) (now (tally .entry)) (now (feasible .exit)) (now (tally .exit)))
+        (DownMarks (now (book .entry)) (now (plausible .entry)) (now (counts .entry)) (now (marks .exit)))
+        (now (feasible .entry)) (now (tally .entry)) (now (feasible .exit)) (now (tally .exit)) r ⌝ }
+{
+    let mark = word(tally[wide(book::left(book, at))]) + 1;
+    if marks[p] == mark {
+        return Turn::Still;
+    }
+    marks[p] = mark;
+    serve_down(book, at, plausible, counts, feasible, tally)
+}
+
+// All productions in order.
+fn sweep_down(
+    book: &[u8],
+    places: &[usize],
+    marks: &mut [u16],
+    plausible: &[u32],
+    counts: &[u8],
+    feasible: &mut [u32],
+    tally: &mut [u8],
+) -> Turn
+    requires { ⌜ Accepted (now book) × Index (now book) (now places) × (length (now marks) ≡ max-prods)
+        × Fine (kinds (now book)) (Plausible (grammar (now book))) (now plausible) (now counts)
+        × Fine (kinds (now book)) (Feasible (grammar (now book))) (now feasible) (now tally)
+        × DownMarks (now book) (now plausible) (now counts) (now marks) (now feasible) (now tally) ⌝ }
+    ensures { λ r. ⌜ Attended (kinds (now (book .entry))) (Feasible (grammar (now (book .entry))))
+        (DownSwept (now (book .entry)) (now (plausible .entry)) (now (counts .entry)) (now (feasible .entry)) (now (tally .entry)) (now (feasible .exit)) (now (tally .exit)))
+        (DownMarks (now (book .entry)) (now (plausible .entry)) (now (counts .entry)) (now (marks .exit)))
+        (now (feasible .entry)) (now (tally .entry)) (now (feasible .exit)) (now (tally .exit)) r ⌝ }
+{
+    let n = span(book::productions(book));
+    let mut added = false;
+    let mut p = 0;
+    while p < n {
+        match attend_down(book, places[p], p, marks, plausible, counts, feasible, tally) {
+            Turn::Still => {}
+            Turn::Added => {
+                added = true;
+            }
+            Turn::Full => {
+                return Turn::Full;
+            }
+        }
+        p += 1;
+    }
+    if added { Turn::Added } else { Turn::Still }
+}
+
+// Sweeps until one adds nothing; false where some set would be over-full.
+fn close_down(book: &[u8], places: &[usize], plausible: &[u32], counts: &[u8], feasible: &mut [u32], tally: &mut [u8]) -> bool
+    requires { ⌜ Accepted (now book) × Index (now book) (now places)
+        × Fine (kinds (now book)) (Plausible (grammar (now book))) (now plausible) (now counts)
+        × Fine (kinds (now book)) (Feasible (grammar (now book))) (now feasible) (now tally) ⌝ }
+    ensures { λ r. ⌜ Swept (kinds (now (book .entry))) (Feasible (grammar (now (book .entry))))
+        (DownClosed (now (book .entry)) (now (plausible .entry)) (now (counts .entry)) (now (feasible .exit)) (now (tally .exit)))
+        (now (feasible .entry)) (now (tally .entry)) (now (feasible .exit)) (now (tally .exit)) r ⌝ }
+{
+    let mut marks = [0u16; MARKS];
+    loop {
+        match sweep_down(book, places, &mut marks, plausible, counts, feasible, tally) {
+            Turn::Still => {
+                return true;
+            }
+            Turn::Added => {}
+            Turn::Full => {
+                return false;
+            }
+        }
+    }
+}
