@@ -1,27 +1,30 @@
 -- A production's turn in a sweep of the downward pass, the sweep, and the pass.
 use mathlib.Core.Path.{_≡_, refl, sym, ap, _∙_, subst}
 use mathlib.Core.Logic.{_⊎_, inl, inr}
+use mathlib.Core.Bool.{Bool}
 use mathlib.Core.List.{List}
 use Prim.Native.Nat.{ℕ, zero, suc, _+_, _*_, _≤_, _<_}
 use native.Mathlib.Omega.{arith}
 use lib.ListN.{length, getD, set, replicate, getD-replicate}
-use Rattle.chains.specs.Limits.{max-prods}
+use Rattle.chains.specs.Limits.{max-prods, max-members}
 use Rattle.chains.specs.Plausible.{Plausible}
 use Rattle.chains.specs.Feasible.{Feasible}
-use Rattle.chains.proofs.Feasible.{feasible-sound}
-use Rattle.book.specs.Format.{entry, kinds, prods, grammar}
+use Rattle.chains.proofs.Feasible.{ClosedDown, feasible-sound, feasible-complete}
+use Rattle.book.specs.Format.{kinds, prods, start, grammar}
 use Rattle.book.proofs.Accepted.{Accepted}
 use Rattle.tables.specs.Sets.{Has}
-use Rattle.tables.specs.Memory.{Fine, Kept, Turned}
+use Rattle.tables.specs.Memory.{Fine, Kept, Turned, cleared}
 use Rattle.tables.specs.Visit.{Gathered, OldOr}
-use Rattle.tables.specs.Sweep.{Since, total, Attended}
-use Rattle.tables.specs.Downward.{down-step, down-into, down-watch, DownServed, DownMarks, DownSwept, DownClosed}
+use Rattle.tables.specs.Sweep.{Since, total, Attended, Swept, Exact, Outcome}
+use Rattle.tables.specs.Downward.{down-step, down-into, down-watch, DownServed, DownMarks, DownSwept, DownClosed, Seeded}
 use Rattle.tables.specs.declared.sets.Turn.{Turn}
 use Rattle.tables.specs.declared.sets.Turn.the-variants.{Still}
-use Rattle.tables.proofs.Memory.{turned-map, Lasts}
+use Rattle.tables.proofs.Memory.{kept-trans, turned-map, Lasts}
+use Rattle.tables.proofs.Holds.{fine-holds}
 use Rattle.tables.proofs.Gathering.{turned-widen}
 use Rattle.tables.proofs.Sweeping.{total-none, total-more, Watches, since-now, since-later, since-earlier, since-closed, spared, attended}
 use Rattle.tables.proofs.UpwardSweep.{members-change}
+use Rattle.tables.proofs.Seeding.{seeded-has, seeded-fine, seeded-kept}
 
 -- the downward step hangs on the left kind alone: the children's codes are the plausible ones throughout
 pub down-watches : (b s c : List ℕ) (p j : ℕ) → Watches (down-step b s c p j) (down-watch b p) 1
@@ -90,3 +93,25 @@ module _ {b : List ℕ} (a : Accepted b) (s c : List ℕ) where
   pub down-closed : {P : ℕ → ℕ → Type 0} {f d f′ d′ : List ℕ} → Fine (kinds b) P f′ d′ → f′ ≡ f → d′ ≡ d → DownSwept b s c f d f′ d′ → DownClosed b s c f′ d′
   down-closed g e q o p j x l h m =
       since-closed g (down-watch b p) 1 (λ i k. a .lawful .left-in p l) (down-watches b s c p j) (ap (λ (u : List ℕ). total u (down-watch b p) 1) (sym q)) (o p l j h) x m
+
+-- ---- the pass
+module _ {b : List ℕ} (a : Accepted b) (f₀ d₀ : List ℕ) {s c f d : List ℕ} (there : kinds b * max-members ≤ length f₀) (here : kinds b ≤ length d₀)
+    (e : Exact (kinds b) (Plausible (grammar b)) s c) (o : Seeded (start b) s c (cleared (kinds b * max-members) f₀) (cleared (kinds b) d₀) f d) where
+  pub down-begun : Fine (kinds b) (Feasible (grammar b)) f d
+  down-begun = seeded-fine f₀ d₀ there here (a .lawful .start-in) (e .fine) o (λ x h. feasible-sound (grammar b) .at-start x h)
+
+  -- THEOREM: sweeps from the start's plausible groupings come to exactly the feasible ones, or to a 65th
+  pub down-outcome : {f′ d′ : List ℕ} {r : Bool} → Swept (kinds b) (Feasible (grammar b)) (DownClosed b s c f′ d′) f d f′ d′ r
+      → Outcome (kinds b) (Feasible (grammar b)) f₀ d₀ f′ d′ r
+  down-outcome {f′} {d′} w = record {
+    holds = λ z. fine-holds there here (kept-trans (seeded-kept f₀ d₀ there here (a .lawful .start-in) (e .fine) o) (w .kept)) (w .fine)
+        (λ k x h. feasible-complete (grammar b) (Has f′ d′) (closed (w .closed z)) k x);
+    over = w .over;
+  }
+    where
+      closed : DownClosed b s c f′ d′ → ClosedDown (grammar b) (Plausible (grammar b)) (Has f′ d′)
+      closed q = record {
+        at-start = λ x h. w .kept .stays (start b) x (a .lawful .start-in) (seeded-has f₀ d₀ there here (a .lawful .start-in) (e .fine) o x (e .whole (start b) x (a .lawful .start-in) h));
+        below = λ p j x l h (u, cs, m, n, says). q p j x l h
+          (u, cs, m, members-change (Plausible (grammar b)) (Has s c) (grammar b .kids p) cs (λ i y k. e .whole (getD (grammar b .kids p) i 0) y (a .lawful .kids-in p i l k)) n, says);
+      }

@@ -24,3 +24,4 @@ pub mod UpwardVisit
 pub mod UpwardSweep
 pub mod DownwardVisit
 pub mod DownwardSweep
+pub mod Seeding

@@ -6,13 +6,13 @@ ghost use Rattle.chains.specs.Limits.{max-kids, max-members, max-prods};
 ghost use Rattle.chains.specs.Plausible.{Plausible};
 ghost use Rattle.chains.specs.Feasible.{Feasible};
 ghost use Rattle.book.specs.Format.{arity-at, entry, kinds, prods, grammar};
-ghost use Rattle.book.specs.Reading.{kind-in, Index};
+ghost use Rattle.book.specs.Reading.{told, kind-in, Index};
 ghost use Rattle.book.proofs.Accepted.{Accepted};
 ghost use Rattle.tables.specs.Sets.{Has};
 ghost use Rattle.tables.specs.Memory.{Placed, Fine, Turned};
 ghost use Rattle.tables.specs.Visit.{max-turns, Gathered, OldOr, Opened, Opening};
-ghost use Rattle.tables.specs.Sweep.{Attended, Swept, Outcome};
-ghost use Rattle.tables.specs.Downward.{slot-down, given, down-step, down-into, DownServed, DownMarks, DownSwept, DownClosed};
+ghost use Rattle.tables.specs.Sweep.{Attended, Swept, Exact, Outcome};
+ghost use Rattle.tables.specs.Downward.{slot-down, given, down-step, down-into, DownServed, DownMarks, DownSwept, DownClosed, Seeded};
 
 use super::gather::Visit;
 use super::sets::MAX_MEMBERS;
@@ -241,4 +241,30 @@ fn close_down(book: &[u8], places: &[usize], plausible: &[u32], counts: &[u8], f
             }
         }
     }
+}
+
+// The start's feasible groupings are its plausible ones.
+fn seed(book: &[u8], plausible: &[u32], counts: &[u8], feasible: &mut [u32], tally: &mut [u8])
+    requires { ⌜ Placed (now plausible) (now counts) (told (now book) 3) × (told (now book) 3 * max-members + max-members ≤ length (now feasible))
+        × (told (now book) 3 < length (now tally)) ⌝ }
+    ensures { λ _. ⌜ Seeded (told (now (book .entry)) 3) (now (plausible .entry)) (now (counts .entry)) (now (feasible .entry)) (now (tally .entry)) (now (feasible .exit)) (now (tally .exit)) ⌝ }
+{
+    let k = span(book::start(book));
+    copy_members(plausible, k, count(counts, k), feasible, k * MAX_MEMBERS);
+    tally[k] = counts[k];
+}
+
+// The feasible groupings of every kind, from the plausible ones; false where some kind has over 64 of them. Whatever stood in the sets before decides
+// nothing.
+pub fn downward(book: &[u8], places: &[usize], plausible: &[u32], counts: &[u8], feasible: &mut [u32], tally: &mut [u8]) -> bool
+    requires { ⌜ Accepted (now book) × Index (now book) (now places) × Exact (kinds (now book)) (Plausible (grammar (now book))) (now plausible) (now counts)
+        × (kinds (now book) * max-members ≤ length (now feasible)) × (kinds (now book) ≤ length (now tally)) ⌝ }
+    ensures { λ r. ⌜ Outcome (kinds (now (book .entry))) (Feasible (grammar (now (book .entry))))
+        (now (feasible .entry)) (now (tally .entry)) (now (feasible .exit)) (now (tally .exit)) r ⌝ }
+{
+    let n = span(book::kinds(book));
+    clear32(feasible, n * MAX_MEMBERS);
+    clear8(tally, n);
+    seed(book, plausible, counts, feasible, tally);
+    close_down(book, places, plausible, counts, feasible, tally)
 }
