@@ -1,9 +1,9 @@
 -- A production's turn in a sweep of the downward pass, the sweep, and the pass.
-use mathlib.Core.Path.{_≡_, refl, sym, ap, _∙_, subst}
-use mathlib.Core.Logic.{_⊎_, inl, inr}
+use mathlib.Core.Path.{_≡_, sym, ap}
+use mathlib.Core.Logic.{inl, inr}
 use mathlib.Core.Bool.{Bool}
 use mathlib.Core.List.{List}
-use Prim.Native.Nat.{ℕ, zero, suc, _+_, _*_, _≤_, _<_}
+use Prim.Native.Nat.{ℕ, suc, _+_, _*_, _≤_, _<_}
 use native.Mathlib.Omega.{arith}
 use lib.ListN.{length, getD, set, replicate, getD-replicate}
 use Rattle.chains.specs.Limits.{max-prods, max-members}
@@ -44,8 +44,13 @@ module _ {b : List ℕ} (a : Accepted b) (p : ℕ) (l : p < prods b) (s c f₀ d
     down-sound : (j : ℕ) → j < length (grammar b .kids p) → (k x : ℕ) → k < kinds b → OldOr f d (down-into b p j) (down-step b s c p j (Has f d)) k x → Feasible (grammar b) k x
     down-sound j h k x low (inl o) = feasible .only k x low o
     down-sound j h k x low (inr (e, (u, cs, m, n, says))) =
-        rw e (feasible-sound (grammar b) .below p j x l h (u, cs, feasible .only (grammar b .left p) u (a .lawful .left-in p l) m,
-          members-change (Has s c) (Plausible (grammar b)) (grammar b .kids p) cs (λ i y q. plausible .only (getD (grammar b .kids p) i 0) y (a .lawful .kids-in p i l q)) n, says))
+        rw e (feasible-sound (grammar b) .below p j x l h (
+          u,
+          cs,
+          feasible .only (grammar b .left p) u (a .lawful .left-in p l) m,
+          members-change (Has s c) (Plausible (grammar b)) (grammar b .kids p) cs (λ i y q. plausible .only (getD (grammar b .kids p) i 0) y (a .lawful .kids-in p i l q)) n,
+          says,
+        ))
 
     pub down-visited : Kept (kinds b) f₀ d₀ f d → {j : ℕ} → j < length (grammar b .kids p) → {f′ d′ : List ℕ} {r : Turn}
         → Turned (kinds b) (OldOr f d (down-into b p j) (down-step b s c p j (Has f d))) (Gathered (down-into b p j) (down-step b s c p j (Has f d)) f′ d′) f d f′ d′ r
@@ -113,5 +118,5 @@ module _ {b : List ℕ} (a : Accepted b) (f₀ d₀ : List ℕ) {s c f d : List 
       closed q = record {
         at-start = λ x h. w .kept .stays (start b) x (a .lawful .start-in) (seeded-has f₀ d₀ there here (a .lawful .start-in) (e .fine) o x (e .whole (start b) x (a .lawful .start-in) h));
         below = λ p j x l h (u, cs, m, n, says). q p j x l h
-          (u, cs, m, members-change (Plausible (grammar b)) (Has s c) (grammar b .kids p) cs (λ i y k. e .whole (getD (grammar b .kids p) i 0) y (a .lawful .kids-in p i l k)) n, says);
+            (u, cs, m, members-change (Plausible (grammar b)) (Has s c) (grammar b .kids p) cs (λ i y k. e .whole (getD (grammar b .kids p) i 0) y (a .lawful .kids-in p i l k)) n, says);
       }

@@ -13,7 +13,7 @@ use Rattle.lists.proofs.Parts.{place-long, place-this, getD-before, getD-after}
 use Rattle.lists.proofs.Room.{room-falls}
 use Rattle.chains.specs.Limits.{max-members}
 use Rattle.tables.specs.Sets.{members, Has, member}
-use Rattle.tables.specs.Memory.{Placed, Fine, Kept, room, cleared}
+use Rattle.tables.specs.Memory.{Fine, Kept, room, cleared}
 use Rattle.tables.specs.Downward.{Seeded}
 use Rattle.tables.proofs.Members.{members-long}
 use Rattle.tables.proofs.Cleared.{cleared-long, cleared-at}
@@ -80,7 +80,7 @@ module _ {n k : ℕ} {P : ℕ → ℕ → Type 0} (f₀ d₀ : List ℕ) {s c f 
     blank = λ j i. every k (λ j. j < n → getD d j 0 ≤ i → i < max-members → member f j i ≡ 0)
         (λ h b e. after (k * max-members + i) (omega (arith, this-count)) ∙ empty-at (k * max-members + i) (omega arith))
         (λ j z h b e. by-order (member f j i ≡ 0) j k (λ y. absurd (z y)) (λ y. before (j * max-members + i) (omega arith) ∙ empty-at (j * max-members + i) (omega arith))
-          (λ y. after (j * max-members + i) (omega (arith, few)) ∙ empty-at (j * max-members + i) (omega arith))) j;
+        (λ y. after (j * max-members + i) (omega (arith, few)) ∙ empty-at (j * max-members + i) (omega arith))) j;
   }
 
   pub seeded-kept : Kept n F D f d

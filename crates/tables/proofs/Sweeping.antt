@@ -1,7 +1,7 @@
 -- The laws of sweeps: what was served stays so; where the watched kinds have no member more, it is served for the sets as they stand; and marks
 -- hold on.
 use mathlib.Core.Path.{_≡_, refl, sym, ap, ap₂, _∙_, subst}
-use mathlib.Core.Logic.{_⊎_, inl, inr}
+use mathlib.Core.Logic.{inl, inr}
 use mathlib.Core.Bool.{Bool, true, false, true≢false}
 use mathlib.Core.List.{List, List·Memᴰ}
 use Prim.Native.Nat.{ℕ, zero, suc, _+_, _≤_, _<_}
@@ -15,7 +15,7 @@ use Rattle.chains.specs.Limits.{max-prods}
 use Rattle.tables.specs.Sets.{Has}
 use Rattle.tables.specs.Memory.{Fine, Kept, Turned, room}
 use Rattle.tables.specs.Visit.{Gathered}
-use Rattle.tables.specs.Sweep.{Since, Served, total, Visited, Marked, Attended, Swept}
+use Rattle.tables.specs.Sweep.{Since, Served, total, Marked, Attended, Swept}
 use Rattle.tables.specs.declared.sets.Turn.{Turn}
 use Rattle.tables.specs.declared.sets.Turn.the-variants.{Still, Added, Full}
 use Rattle.tables.proofs.Memory.{kept-refl, kept-trans, equal-counts, turned-map, Lasts, Going, set-out, on-still, on-added, on-full, end-added, end-still}

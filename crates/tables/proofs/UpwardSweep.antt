@@ -1,6 +1,6 @@
 -- A production's turn in a sweep of the upward pass.
-use mathlib.Core.Path.{_≡_, refl, sym, ap, ap₂, _∙_, subst}
-use mathlib.Core.Logic.{_⊎_, inl, inr, ⊎-elim}
+use mathlib.Core.Path.{_≡_, sym, ap, _∙_}
+use mathlib.Core.Logic.{inl, inr}
 use mathlib.Core.Bool.{Bool}
 use mathlib.Core.List.{List, [], _∷_}
 use Prim.Native.Nat.{ℕ, suc, _*_, _≤_, _<_}
@@ -17,16 +17,14 @@ use Rattle.book.proofs.Accepted.{Accepted, arity-read, kid-read}
 use Rattle.tables.specs.Sets.{Has}
 use Rattle.tables.specs.Memory.{Fine, Kept, Turned, cleared}
 use Rattle.tables.specs.Visit.{Gathered, OldOr}
-use Rattle.tables.specs.Sweep.{total, Marked, Attended, Swept, Outcome}
+use Rattle.tables.specs.Sweep.{total, Attended, Swept, Outcome}
 use Rattle.tables.specs.Upward.{up-step, up-into, up-watch, UpServed, UpMarks, UpSwept, UpClosed}
 use Rattle.tables.specs.declared.sets.Turn.{Turn}
-use Rattle.tables.specs.declared.sets.Turn.the-variants.{Still, Added, Full}
-use Rattle.tables.proofs.Memory.{kept-refl, turned-map, Lasts}
+use Rattle.tables.specs.declared.sets.Turn.the-variants.{Still}
+use Rattle.tables.proofs.Memory.{turned-map, Lasts}
 use Rattle.tables.proofs.Holds.{fine-holds}
 use Rattle.tables.proofs.Gathering.{turned-widen}
-use Rattle.tables.proofs.StateBase.{few-kids}
 use Rattle.tables.proofs.Sweeping.{total-agree, Watches, since-now, since-later, since-earlier, since-closed, spared, attended}
-use Rattle.tables.proofs.UpwardVisit.{kind-known}
 
 -- codes of some kinds, in other sets that have them
 pub members-change : (A B : ℕ → ℕ → Type 0) (ks cs : List ℕ) → ((i x : ℕ) → i < length ks → A (getD ks i 0) x → B (getD ks i 0) x) → Members A ks cs → Members B ks cs

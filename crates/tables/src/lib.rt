@@ -1,7 +1,7 @@
+mod downward;
+mod gather;
 mod labels;
 mod seen;
-mod gather;
 mod sets;
-mod visit;
 mod upward;
-mod downward;
+mod visit;

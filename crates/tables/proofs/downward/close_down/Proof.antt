@@ -8,7 +8,6 @@ use Rattle.tables.specs.Memory.{room}
 use Rattle.tables.specs.Downward.{DownMarks}
 use Rattle.tables.proofs.Sweeping.{Closing, close-begun, close-less, close-added, close-still, close-full}
 use Rattle.tables.proofs.DownwardSweep.{down-unmarked, down-closed}
-use native.Mathlib.Omega.{arith}
 use borrow.Author.Needs.{needs}
 use Rattle.tables.proofs.downward.close_down.Statement.{statement}
 use Rattle.tables.proofs.downward.close_down.Tie as tie

@@ -44,9 +44,9 @@ same-length-2 c = search needs
 
 returns : tie.Need-returns
 returns c = record {
-    held = c .before .before .before .copy-members .ensures ∙ rw (c .before .before .before .before .before .count .ensures .0, c .before .before .before .before .before .before .span .ensures .0, c .before .before .before .before .before .before .before .start .ensures);
-    counted = rw (c .before .before .before .before .before .before .span .ensures .0, c .before .before .before .before .before .before .before .start .ensures);
-  }
+  held = c .before .before .before .copy-members .ensures ∙ rw (c .before .before .before .before .before .count .ensures .0, c .before .before .before .before .before .before .span .ensures .0, c .before .before .before .before .before .before .before .start .ensures);
+  counted = rw (c .before .before .before .before .before .before .span .ensures .0, c .before .before .before .before .before .before .before .start .ensures);
+}
 
 pub seed-spec : {M : Type 1} → statement M
 seed-spec =
