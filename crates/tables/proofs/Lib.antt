@@ -35,3 +35,4 @@ pub mod FillChoices
 pub mod FillState
 pub mod FillUp
 pub mod FillDown
+pub mod Seeding

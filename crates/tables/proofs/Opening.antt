@@ -1,5 +1,5 @@
 -- A visit made ready: each turn that is opened leaves those before it as they were.
-use mathlib.Core.Path.{_≡_, refl, sym, ap, _∙_, subst}
+use mathlib.Core.Path.{_≡_, ap, _∙_}
 use mathlib.Core.List.{List}
 use Prim.Native.Nat.{ℕ, _+_, _*_, _≤_, _<_}
 use native.Mathlib.Omega.{arith}
@@ -9,10 +9,10 @@ use Rattle.lists.proofs.Order.{by-order}
 use Rattle.lists.proofs.Parts.{getD-part, place-long, getD-before, getD-this}
 use Rattle.chains.specs.Limits.{max-members}
 use Rattle.book.specs.Reading.{kind-in}
-use Rattle.tables.specs.Sets.{members, member}
+use Rattle.tables.specs.Sets.{members}
 use Rattle.tables.specs.Memory.{Placed}
 use Rattle.tables.specs.State.{width-in}
-use Rattle.tables.specs.Visit.{max-turns, slot-of, width-of, size-of, code-of, Opened, Taken, Sized, Opening}
+use Rattle.tables.specs.Visit.{max-turns, size-of, Opened, Taken, Sized, Opening}
 use Rattle.tables.specs.declared.gather.Visit.{Visit}
 use Rattle.tables.proofs.Members.{members-long}
 
@@ -50,10 +50,10 @@ module _ {b : List ℕ} {at : ℕ} {s c : List ℕ} {v v′ : Visit} {j slot : �
     size-is = size-now;
     few = omega (arith, size-now, p .few);
     codes-are = λ r h.
-      let k : r < getD c (kind-in b at slot) 0 = omega (arith, size-now) in
-      ap (λ (u : List ℕ). getD u (j * max-members + r) 0) (o .lists-now)
-      ∙ getD-this l (j * max-members) (members s c (kind-in b at slot)) room r 0 (omega (arith, members-long p))
-      ∙ getD-part (kind-in b at slot * max-members) (getD c (kind-in b at slot) 0) s r 0 k;
+        let k : r < getD c (kind-in b at slot) 0 = omega (arith, size-now) in
+        ap (λ (u : List ℕ). getD u (j * max-members + r) 0) (o .lists-now)
+        ∙ getD-this l (j * max-members) (members s c (kind-in b at slot)) room r 0 (omega (arith, members-long p))
+        ∙ getD-part (kind-in b at slot * max-members) (getD c (kind-in b at slot) 0) s r 0 k;
   }
 
   -- a turn before it
@@ -67,9 +67,9 @@ module _ {b : List ℕ} {at : ℕ} {s c : List ℕ} {v v′ : Visit} {j slot : �
         size-is = q ∙ u .size-is;
         few = omega (arith, u .few);
         codes-are = λ r m.
-          ap (λ (u : List ℕ). getD u (i * max-members + r) 0) (o .lists-now)
-          ∙ getD-before l (j * max-members) (members s c (kind-in b at slot)) room (i * max-members + r) 0 (omega (arith, u .few))
-          ∙ u .codes-are r (omega arith);
+            ap (λ (u : List ℕ). getD u (i * max-members + r) 0) (o .lists-now)
+            ∙ getD-before l (j * max-members) (members s c (kind-in b at slot)) room (i * max-members + r) 0 (omega (arith, u .few))
+            ∙ u .codes-are r (omega arith);
       }
 
 -- THEOREM: one turn more

@@ -1,8 +1,8 @@
 -- A visit made ready off an accepted book is one of its production: its turns' slots are tied with the codes of their kinds.
-use mathlib.Core.Path.{_≡_, refl, sym, ap, _∙_, subst}
+use mathlib.Core.Path.{_≡_, sym, ap, _∙_, subst}
 use mathlib.Core.Logic.{_↔_}
 use mathlib.Core.List.{List}
-use Prim.Native.Nat.{ℕ, suc, _≤_, _<_}
+use Prim.Native.Nat.{ℕ, _≤_, _<_}
 use native.Mathlib.Omega.{arith}
 use lib.ListN.{length, getD}
 use Rattle.chains.specs.Limits.{max-kids}
@@ -10,7 +10,7 @@ use Rattle.chains.specs.Grammar.{Grammar, slots, width, Tied}
 use Rattle.chains.specs.Gather.{Result}
 use Rattle.chains.specs.State.{Shown}
 use Rattle.chains.proofs.Gather.{result-open}
-use Rattle.book.specs.Format.{arity-at, entry, prods, grammar}
+use Rattle.book.specs.Format.{entry, prods, grammar}
 use Rattle.book.specs.Reading.{kind-in}
 use Rattle.book.proofs.Accepted.{Accepted, arity-read, kind-in-read}
 use Rattle.tables.specs.Sets.{Has, member}
@@ -112,7 +112,7 @@ module _ {b : List ℕ} (a : Accepted b) (p : ℕ) (l : p < prods b) where
           → Yields v u n (based b (entry b p)) x ↔ Result G p t Codes Open (Tied G p) x
       plan-result Open opened x =
           let y = subst (λ t. Yields v u n (based b (entry b p)) x ↔ Result G p t Codes (Among v n) (Shown (based b (entry b p))) x) (h .target)
-              (yields-result G p v u Codes n planned plan-standing x) in
+          (yields-result G p v u Codes n planned plan-standing x) in
           let o = result-open G p t Codes (Among v n) Open (Shown (based b (entry b p))) x (λ s. (λ (i, k, e). opened s .0 (i, k, sym (turn-slot i k) ∙ e), λ m. back s (opened s .1 m))) in
           let d = base-result a p l t Codes Open x in
           (λ m. d .0 (o .0 (y .0 m)), λ m. y .1 (o .1 (d .1 m)))

@@ -1,22 +1,21 @@
 -- A visit of the upward pass: what it needs, and what it puts in.
-use mathlib.Core.Path.{_≡_, refl, sym, ap, _∙_, subst}
+use mathlib.Core.Path.{_≡_, refl, subst}
 use mathlib.Core.Logic.{_↔_}
-use mathlib.Core.List.{List, [], _∷_}
+use mathlib.Core.List.{List}
 use Prim.Native.Nat.{ℕ, zero, suc, _≤_, _<_}
 use native.Mathlib.Omega.{arith}
 use lib.ListN.{length, getD}
-use Rattle.chains.specs.Grammar.{Grammar, slots}
-use Rattle.chains.specs.Grouping.{Members}
+use Rattle.chains.specs.Grammar.{slots}
 use Rattle.chains.specs.Gather.{UpTo, CodesOf}
 use Rattle.chains.specs.Steps.{StepUp}
 use Rattle.chains.proofs.Gathered.{gathered-up}
 use Rattle.book.specs.Format.{arity-at, entry, kinds, prods, grammar}
-use Rattle.book.specs.Reading.{kind-in, kid-at}
-use Rattle.book.proofs.Accepted.{Accepted, arity-read, kid-read, kind-in-read}
+use Rattle.book.specs.Reading.{kind-in}
+use Rattle.book.proofs.Accepted.{Accepted, arity-read, kind-in-read}
 use Rattle.tables.specs.Sets.{Has}
 use Rattle.tables.specs.Memory.{Placed, Fine, Turned}
 use Rattle.tables.specs.State.{based}
-use Rattle.tables.specs.Visit.{Yields, Gathered, OldOr, Gathers, InOrder, Opening, Prepared}
+use Rattle.tables.specs.Visit.{Yields, Gathered, OldOr, Gathers, Opening, Prepared}
 use Rattle.tables.specs.declared.sets.Turn.{Turn}
 use Rattle.tables.specs.declared.gather.Visit.{Visit}
 use Rattle.tables.proofs.Memory.{fine-placed}
@@ -57,7 +56,7 @@ module _ {b : List ℕ} (a : Accepted b) (p : ℕ) (l : p < prods b) where
     yields-up : (x : ℕ) → Yields v u (arity-at b (entry b p)) (based b (entry b p)) x ↔ StepUp (grammar b) (Has s c) p x
     yields-up x =
         let y = plan-result a p l h (omega arith) (omega (arith, few-kids a p l)) inside (λ i k q r e. omega arith) (λ i k. fine-placed f _ (kind-known (suc i) (inside i k)))
-            (CodesOf (grammar b) (Has s c) (Has s c) p) (λ i c k. (λ m. m, λ m. m)) (UpTo (length (grammar b .kids p))) opened x in
+        (CodesOf (grammar b) (Has s c) (Has s c) p) (λ i c k. (λ m. m, λ m. m)) (UpTo (length (grammar b .kids p))) opened x in
         let g = gathered-up (grammar b) (Has s c) (Has s c) p x in
         (λ m. g .0 (y .0 m), λ m. y .1 (g .1 m))
 

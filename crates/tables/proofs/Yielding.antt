@@ -3,14 +3,13 @@ use mathlib.Core.Path.{_≡_, refl, sym, _∙_, subst}
 use mathlib.Core.Logic.{_⊎_, inl, inr, _↔_}
 use mathlib.Core.Bool.{Bool, true, false}
 use mathlib.Core.List.{List}
-use Prim.Native.Nat.{ℕ, zero, suc, _+_, _*_, _≤_, _<_}
+use Prim.Native.Nat.{ℕ, zero, suc, _≤_, _<_}
 use native.Mathlib.Omega.{arith}
 use borrow.Author.Tests.{eqb-true, eqb-false}
 use lib.Dec.{eqb}
-use lib.ListN.{length}
 use Rattle.lists.specs.Pick.{pick}
 use Rattle.lists.proofs.Order.{by-order}
-use Rattle.chains.specs.Limits.{max-settings, max-kids}
+use Rattle.chains.specs.Limits.{max-settings}
 use Rattle.chains.specs.Grammar.{Occ, Grammar, width}
 use Rattle.chains.specs.Chain.{Eqv, done, fwd}
 use Rattle.chains.specs.Labels.{joins}
@@ -20,7 +19,7 @@ use Rattle.chains.proofs.Closure.{more}
 use Rattle.chains.proofs.Gather.{result-map, result-open, result-none, result-more}
 use Rattle.chains.proofs.Tying.{tied-shown}
 use Rattle.tables.specs.State.{State, Whole, tidied}
-use Rattle.tables.specs.Visit.{slot-of, width-of, size-of, code-of, released, tied, chosen, Yields, Ready, Standing}
+use Rattle.tables.specs.Visit.{slot-of, width-of, size-of, code-of, chosen, Yields, Ready, Standing}
 use Rattle.tables.specs.declared.gather.Visit.{Visit}
 use Rattle.tables.proofs.State.{tie-means}
 use Rattle.tables.proofs.StateWalk.{tidy-shown, code-only, step-result}
@@ -141,10 +140,10 @@ module _ (G : Grammar) (p : ℕ) (v : Visit) (l : List ℕ) (Codes : ℕ → ℕ
   yields-result (suc j) h {s} st x =
       let t = turn-result j h st x in
       let ih : (c : ℕ) → Yields v l j (chosen v j c s) x ↔ Result G p (v .target) Codes (Among v j) (Shown (chosen v j c s)) x
-          = λ c. yields-result j (planned-less h) (chosen-standing (h .ready) st c) x in (
+      = λ c. yields-result j (planned-less h) (chosen-standing (h .ready) st c) x in (
         λ (i, b, y). t .1 (code-of l j i, h .codes-are j (code-of l j i) (omega arith) .1 (i, b, refl), ih (code-of l j i) .0 y),
         λ r.
-          let (c, m, q) = t .0 r in
-          let (i, b, e) = h .codes-are j c (omega arith) .0 m in
-          (i, b, subst (λ c. Yields v l j (chosen v j c s) x) (sym e) (ih c .1 q)),
+            let (c, m, q) = t .0 r in
+            let (i, b, e) = h .codes-are j c (omega arith) .0 m in
+            (i, b, subst (λ c. Yields v l j (chosen v j c s) x) (sym e) (ih c .1 q)),
       )

@@ -1,13 +1,12 @@
 // What comes of all choices of codes for a production's slots, gathered into one kind's set.
 ghost use mathlib.Core.Path.{_≡_};
 ghost use Prim.Native.Nat.{suc, _<_, _≤_};
-ghost use lib.ListN.{length, getD};
+ghost use lib.ListN.{length};
 ghost use Rattle.chains.specs.Limits.{max-kids};
 ghost use Rattle.chains.specs.State.{code-on};
 ghost use Rattle.ranks.specs.Entries.{labels};
 ghost use Rattle.tables.specs.Memory.{Put};
 ghost use Rattle.tables.specs.Visit.{Ready, Standing, InOrder, released, chosen, Request, Reply};
-
 use super::labels::LABELS;
 use super::labels::NONE;
 use super::labels::copy_state;

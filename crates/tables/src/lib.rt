@@ -2,6 +2,7 @@
 mod blocks;
 mod downward;
 mod fill;
+mod downward;
 mod gather;
 mod labels;
 mod seen;
@@ -14,3 +15,5 @@ mod visit;
 pub use blocks::block_size;
 pub use blocks::first_occurrence;
 pub use blocks::occurrences;
+mod upward;
+mod visit;
