@@ -6,13 +6,14 @@ ghost use lib.ListN.{length, getD};
 ghost use Rattle.lists.specs.Part.{place};
 ghost use Rattle.chains.specs.Limits.{max-kids, max-members};
 ghost use Rattle.chains.specs.Plausible.{Plausible};
+ghost use Rattle.chains.specs.Feasible.{Feasible};
 ghost use Rattle.book.specs.Format.{kinds, prods, grammar};
 ghost use Rattle.ranks.specs.Entries.{choices, labels, entry-bytes};
 ghost use Rattle.tables.specs.Sets.{member};
-ghost use Rattle.tables.specs.Entries.{UpTable};
-ghost use Rattle.tables.specs.Promise.{up-entries, Written};
+ghost use Rattle.tables.specs.Entries.{UpTable, DownTable};
+ghost use Rattle.tables.specs.Promise.{up-entries, down-entries, Written};
 ghost use Rattle.tables.specs.State.{State, tidied};
-ghost use Rattle.tables.specs.Fill.{kind-of, kinds-from, Sized, Ready, tied-once, InPlace, Listed, RankOn, ChildRank, ChildRanks, Rankable, Entry, entry-size, Laid, Choices, Asked, AllAsked, AllChoices, Opened, Exact, UpRun};
+ghost use Rattle.tables.specs.Fill.{kind-of, kinds-from, Sized, Ready, tied-once, InPlace, Listed, RankOn, ChildRank, ChildRanks, Rankable, Entry, entry-size, Laid, Choices, Asked, AllAsked, AllChoices, Opened, Exact, UpRun, DownRun};
 use super::labels::LABELS;
 use super::labels::NONE;
 use super::labels::base;
@@ -222,6 +223,50 @@ pub fn fill_up(book: &[u8], places: &[usize; PRODUCTIONS], sets: &[u32], counts:
     let mut p = 0;
     while p < n {
         at = up_run(book, places, p, sets, counts, up, at);
+        p += 1;
+    }
+}
+
+// ---- the down table
+
+// The entries of a production, from `at` on.
+fn down_run(
+    book: &[u8],
+    places: &[usize; PRODUCTIONS],
+    p: usize,
+    sets: &[u32],
+    counts: &[u8],
+    feasible: &[u32],
+    sizes: &[u8],
+    down: &mut [u8],
+    at: usize,
+) -> usize
+    requires { ⌜ Opened (now book) (now places) × (p < prods (now book)) × Exact (kinds (now book)) (Plausible (grammar (now book))) (now sets) (now counts)
+        × Exact (kinds (now book)) (Feasible (grammar (now book))) (now feasible) (now sizes)
+        × (at + getD (now sizes) (grammar (now book) .left p) 0 * choices (now counts) (grammar (now book) .kids p) * entry-bytes ≤ length (now down)) ⌝ }
+    ensures { λ r. ⌜ Laid entry-bytes (getD (now (sizes .entry)) (grammar (now (book .entry)) .left p) 0 * choices (now (counts .entry)) (grammar (now (book .entry)) .kids p))
+        (DownRun (grammar (now (book .entry))) (now (sets .entry)) (now (counts .entry)) (now (feasible .entry)) (now (sizes .entry)) p) (now (down .entry)) at (now (down .exit)) r ⌝ }
+{
+    let entry = places[p];
+    let v = shape_of(book, entry);
+    let mut s = [NONE; LABELS];
+    base(book, entry, &mut s);
+    lay_down(v, &s, sets, counts, feasible, sizes, down, at)
+}
+
+// Every down entry, one production behind another. What stands behind them stays as it came.
+pub fn fill_down(book: &[u8], places: &[usize; PRODUCTIONS], sets: &[u32], counts: &[u8], feasible: &[u32], sizes: &[u8], down: &mut [u8])
+    requires { ⌜ Opened (now book) (now places) × Exact (kinds (now book)) (Plausible (grammar (now book))) (now sets) (now counts)
+        × Exact (kinds (now book)) (Feasible (grammar (now book))) (now feasible) (now sizes)
+        × (down-entries (grammar (now book)) (now counts) (now sizes) * entry-bytes ≤ length (now down)) ⌝ }
+    ensures { λ _. ⌜ DownTable (grammar (now (book .entry))) (now (sets .entry)) (now (counts .entry)) (now (feasible .entry)) (now (sizes .entry)) (now (down .exit))
+        × Written (down-entries (grammar (now (book .entry))) (now (counts .entry)) (now (sizes .entry)) * entry-bytes) (now (down .entry)) (now (down .exit)) ⌝ }
+{
+    let n = span(book::productions(book));
+    let mut at = 0;
+    let mut p = 0;
+    while p < n {
+        at = down_run(book, places, p, sets, counts, feasible, sizes, down, at);
         p += 1;
     }
 }
