@@ -1,14 +1,12 @@
 -- The down table: a production's entries, and those of all productions one behind another.
 use mathlib.Core.Path.{_≡_, refl, sym, ap, _∙_, subst, subst₂}
-use mathlib.Core.List.{List, [], _∷_}
-use Prim.Native.Nat.{ℕ, zero, suc, _+_, _*_, _≤_, _<_}
+use mathlib.Core.List.{List}
+use Prim.Native.Nat.{ℕ, suc, _+_, _*_, _≤_, _<_}
 use native.Mathlib.Nat.{mul-le-mul-right}
 use native.Mathlib.Numerals.{add-one}
 use native.Mathlib.Omega.{arith}
-use lib.ListN.{length, getD, take}
-use Rattle.lists.specs.Part.{part}
+use lib.ListN.{length, getD}
 use Rattle.lists.proofs.Order.{by-order}
-use Rattle.chains.specs.Limits.{max-kids}
 use Rattle.chains.specs.Grammar.{Grammar, slots, width}
 use Rattle.chains.specs.Grouping.{Says}
 use Rattle.chains.specs.Plausible.{Plausible}
@@ -17,13 +15,13 @@ use Rattle.chains.specs.State.{code-on}
 use Rattle.book.specs.Format.{kinds, prods, entry, grammar}
 use Rattle.book.specs.Reading.{told}
 use Rattle.book.proofs.Accepted.{Accepted, told-prods}
-use Rattle.ranks.specs.Entries.{choices, choice, down-start, down-entry, labels, entry-bytes, none}
+use Rattle.ranks.specs.Entries.{choices, down-start, down-entry, entry-bytes}
 use Rattle.ranks.proofs.Numbers.{down-start-after, down-entry-below}
 use Rattle.tables.specs.Sets.{member}
 use Rattle.tables.specs.Entries.{Ranks, picked, Downward, Labelled, DownEntry, DownTable}
 use Rattle.tables.specs.Promise.{down-entries, Written}
 use Rattle.tables.specs.State.{based}
-use Rattle.tables.specs.Fill.{kind-of, width-of, kinds-from, ShapeAt, tied, tied-once, Listed, DownBytes, Entry, Laid, chosen, ByAllRanks, AllChoices, AllAsked, Opened, Exact, DownRun, DownAll}
+use Rattle.tables.specs.Fill.{kind-of, kinds-from, ShapeAt, tied, tied-once, Listed, DownBytes, Entry, Laid, chosen, ByAllRanks, AllChoices, AllAsked, Opened, Exact, DownRun, DownAll}
 use Rattle.tables.specs.declared.shape.Shape.{Shape}
 use Rattle.tables.specs.declared.fill.Table.the-variants.{Down}
 use Rattle.tables.proofs.Members.{ranked-has}

@@ -2,7 +2,7 @@
 -- entry has from a state. No promise of the library cites this page.
 use mathlib.Core.Path.{_≡_}
 use mathlib.Core.List.{List, [], _∷_}
-use Prim.Native.Nat.{ℕ, zero, suc, _+_, _-_, _*_, _≤_, _<_}
+use Prim.Native.Nat.{ℕ, suc, _+_, _-_, _*_, _≤_, _<_}
 use lib.ListN.{length, getD, take}
 use Rattle.lists.specs.Part.{part, place}
 use Rattle.chains.specs.Limits.{max-settings, max-kids, max-members}

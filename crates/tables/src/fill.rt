@@ -26,6 +26,8 @@ use super::sets::count;
 use super::sets::rank;
 use super::shape::Shape;
 use super::shape::shape_of;
+use super::shape::span;
+use super::shape::wide;
 
 // Which table an entry belongs to.
 pub enum Table {
@@ -39,18 +41,6 @@ const CHILDREN: usize = book::limits::MAX_CHILDREN as usize;
 
 // Bytes of a down entry: a label for each occurrence, then a rank for each child.
 const ENTRY: usize = LABELS + CHILDREN;
-
-fn wide(x: u8) -> usize
-    ensures { λ r. ⌜ (r ≡ x) × (r < 256) ⌝ }
-{
-    x as usize
-}
-
-fn span(x: u16) -> usize
-    ensures { λ r. ⌜ (r ≡ x) × (r < 65536) ⌝ }
-{
-    x as usize
-}
 
 // ---- one entry
 

@@ -1,10 +1,10 @@
-mod labels;
 mod blocks;
+mod fill;
+mod labels;
+mod sets;
+mod shape;
+mod totals;
 
 pub use blocks::block_size;
 pub use blocks::first_occurrence;
 pub use blocks::occurrences;
-mod sets;
-mod shape;
-mod totals;
-mod fill;

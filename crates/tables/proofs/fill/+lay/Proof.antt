@@ -1,7 +1,6 @@
 -- `lay` meets its contract, with the slots left as the number that falls at each call of itself.
 use Prim.Native.Nat.{ℕ, suc, _<_, _-_}
 use native.Mathlib.Omega.{arith}
-use borrow.Author.Needs.{needs}
 use Rattle.ranks.specs.Entries.{choices}
 use Rattle.tables.specs.Fill.{kinds-from, entry-size, Choices}
 use Rattle.tables.proofs.FillRuns.{Blocks}

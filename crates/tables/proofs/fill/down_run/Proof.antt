@@ -5,39 +5,27 @@ use Rattle.tables.proofs.FillDown.{down-run-asks, down-run-laid}
 use borrow.Author.Needs.{needs}
 use Rattle.tables.proofs.fill.down_run.Statement.{statement}
 use Rattle.tables.proofs.fill.down_run.Tie as tie
-use Rattle.tables.proofs.fill.down_run.Reads as reads
-use Rattle.tables.proofs.fill.down_run.Lts as lts
-use Rattle.tables.proofs.fill.lay_down.Reads as lay-down-reads
-use Rattle.tables.proofs.labels.base.Reads as base-reads
-use Rattle.tables.proofs.shape.shape_of.Reads as shape-of-reads
 
--- src/fill.rt:250:17
 mul-entry : tie.Need-mul-entry
 mul-entry c = search needs
 
--- src/fill.rt:250:17
 element-copy-out-entry : tie.Need-element-copy-out-entry
 element-copy-out-entry c = search needs
 
--- src/fill.rt:251:9
 shape-of-requires : tie.Need-shape-of-requires
 shape-of-requires c κs = search needs
 
--- src/fill.rt:253:5
 base-requires : tie.Need-base-requires
 base-requires c κs = (refl, opened-readable (c .before .before .before .before .before .before .before .before .before .pre .0) _ (c .before .before .before .before .before .before .before .before .before .pre .1))
 
--- src/fill.rt:254:5
 lay-down-requires : tie.Need-lay-down-requires
 lay-down-requires c κs =
     let o = c .before .before .before .before .before .before .before .before .before .before .before .before .pre in
     down-run-asks (o .0) (o .1) (c .before .before .before .before .shape-of .ensures) (o .2) (o .3) (c .before .before .base .ensures) (o .4)
 
--- src/fill.rt:233:1
 same-length : tie.Need-same-length
 same-length c = search needs
 
--- src/fill.rt:233:1
 returns : tie.Need-returns
 returns c =
     let o = c .before .before .before .before .before .before .before .before .before .before .before .before .before .before .before .pre in
