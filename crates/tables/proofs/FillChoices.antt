@@ -17,8 +17,8 @@ use Rattle.tables.specs.Entries.{Ranks, picked}
 use Rattle.tables.specs.State.{spot}
 use Rattle.tables.specs.Fill.{kind-of, width-of, kinds-from, Sized, Ready, tied-once, tied, InPlace, Entry, entry-size, Rankable, Laid, chosen, Choices, Asked, AllChoices, AllAsked}
 use Rattle.tables.specs.declared.shape.Shape.{Shape}
-use Rattle.tables.specs.declared.fill.Table.{Table}
-use Rattle.tables.specs.declared.fill.Table.the-variants.{Down}
+use Rattle.tables.specs.declared.entry.Table.{Table}
+use Rattle.tables.specs.declared.entry.Table.the-variants.{Down}
 use Rattle.tables.proofs.State.{tie-means}
 use Rattle.tables.proofs.Shapes.{kinds-step, kinds-none}
 use Rattle.tables.proofs.FillRuns.{Behind, laid-map, laid-count, Blocks, blocks-begun, blocks-room, blocks-next, blocks-done}

@@ -23,7 +23,7 @@ use Rattle.tables.specs.Promise.{down-entries, Written}
 use Rattle.tables.specs.State.{based}
 use Rattle.tables.specs.Fill.{kind-of, kinds-from, ShapeAt, tied, tied-once, Listed, DownBytes, Entry, Laid, chosen, ByAllRanks, AllChoices, AllAsked, Opened, Exact, DownRun, DownAll}
 use Rattle.tables.specs.declared.shape.Shape.{Shape}
-use Rattle.tables.specs.declared.fill.Table.the-variants.{Down}
+use Rattle.tables.specs.declared.entry.Table.the-variants.{Down}
 use Rattle.tables.proofs.Members.{ranked-has}
 use Rattle.tables.proofs.Memory.{fine-placed}
 use Rattle.tables.proofs.StateBase.{few-settings}

@@ -19,8 +19,8 @@ use Rattle.tables.specs.Entries.{Ranks, picked, Upward, Downward, Ranked
 use Rattle.tables.specs.Memory.{Placed, Fine}
 use Rattle.tables.specs.State.{State, Whole, tidied, width-in}
 use Rattle.tables.specs.declared.shape.Shape.{Shape}
-use Rattle.tables.specs.declared.fill.Table.{Table}
-use Rattle.tables.specs.declared.fill.Table.the-variants.{Up, Down}
+use Rattle.tables.specs.declared.entry.Table.{Table}
+use Rattle.tables.specs.declared.entry.Table.the-variants.{Up, Down}
 
 -- ── the shape of a production ──
 abbrev pub max-slots : ℕ

@@ -1,4 +1,5 @@
 mod blocks;
+mod entry;
 mod fill;
 mod labels;
 mod sets;

@@ -1,8 +1,8 @@
 -- An entry of either table. Assumes nothing.
 use Rattle.tables.proofs.FillEntry.{told-rankable, told-room, told-laid}
 use borrow.Author.Needs.{needs}
-use Rattle.tables.proofs.fill.put_entry.Statement.{statement}
-use Rattle.tables.proofs.fill.put_entry.Tie as tie
+use Rattle.tables.proofs.entry.put_entry.Statement.{statement}
+use Rattle.tables.proofs.entry.put_entry.Tie as tie
 
 enum-told : tie.Need-enum-told
 enum-told c = search needs

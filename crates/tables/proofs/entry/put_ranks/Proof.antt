@@ -5,8 +5,8 @@ use native.Mathlib.Omega.{arith}
 use Rattle.chains.specs.Limits.{max-kids}
 use Rattle.tables.specs.Fill.{ChildRanks}
 use Rattle.tables.proofs.FillEntry.{no-ranks, more-ranks, ranks-done}
-use Rattle.tables.proofs.fill.put_ranks.Statement.{statement}
-use Rattle.tables.proofs.fill.put_ranks.Tie as tie
+use Rattle.tables.proofs.entry.put_ranks.Statement.{statement}
+use Rattle.tables.proofs.entry.put_ranks.Tie as tie
 
 abbrev Inv-loop : tie.InvT-loop
 Inv-loop v s sets counts out₀ at j₀ out j = (j ≤ max-kids) × ChildRanks sets counts v s j out₀ at out

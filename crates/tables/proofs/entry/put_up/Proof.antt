@@ -1,8 +1,8 @@
 -- An up entry. Assumes nothing.
 use Rattle.tables.proofs.FillEntry.{up-put}
 use borrow.Author.Needs.{needs}
-use Rattle.tables.proofs.fill.put_up.Statement.{statement}
-use Rattle.tables.proofs.fill.put_up.Tie as tie
+use Rattle.tables.proofs.entry.put_up.Statement.{statement}
+use Rattle.tables.proofs.entry.put_up.Tie as tie
 
 rank-on-requires : tie.Need-rank-on-requires
 rank-on-requires c κs = search needs

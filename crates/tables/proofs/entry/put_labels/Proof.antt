@@ -4,8 +4,8 @@ use lib.ListN.{length}
 use Rattle.tables.proofs.StateTidy.{tidy-state}
 use Rattle.tables.proofs.FillEntry.{labels-put}
 use borrow.Author.Needs.{needs}
-use Rattle.tables.proofs.fill.put_labels.Statement.{statement}
-use Rattle.tables.proofs.fill.put_labels.Tie as tie
+use Rattle.tables.proofs.entry.put_labels.Statement.{statement}
+use Rattle.tables.proofs.entry.put_labels.Tie as tie
 
 tidy-requires : tie.Need-tidy-requires
 tidy-requires c κs = search needs

@@ -3,8 +3,8 @@ use Prim.Native.Nat.{_<_}
 use native.Mathlib.Omega.{arith}
 use Rattle.tables.proofs.FillEntry.{no-child, some-child, listed-next}
 use borrow.Author.Needs.{needs}
-use Rattle.tables.proofs.fill.child_rank.Statement.{statement}
-use Rattle.tables.proofs.fill.child_rank.Tie as tie
+use Rattle.tables.proofs.entry.child_rank.Statement.{statement}
+use Rattle.tables.proofs.entry.child_rank.Tie as tie
 
 wide-requires : tie.Need-wide-requires
 wide-requires c κs = search needs

@@ -2,8 +2,8 @@
 use mathlib.Core.Path.{refl}
 use Rattle.tables.proofs.FillEntry.{down-put}
 use borrow.Author.Needs.{needs}
-use Rattle.tables.proofs.fill.put_down.Statement.{statement}
-use Rattle.tables.proofs.fill.put_down.Tie as tie
+use Rattle.tables.proofs.entry.put_down.Statement.{statement}
+use Rattle.tables.proofs.entry.put_down.Tie as tie
 
 put-labels-requires : tie.Need-put-labels-requires
 put-labels-requires c κs = search needs

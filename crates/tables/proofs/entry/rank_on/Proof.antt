@@ -2,8 +2,8 @@
 use native.Mathlib.Omega.{arith}
 use Rattle.tables.proofs.FillEntry.{kind-there, rank-there, rank-is, rank-small}
 use borrow.Author.Needs.{needs}
-use Rattle.tables.proofs.fill.rank_on.Statement.{statement}
-use Rattle.tables.proofs.fill.rank_on.Tie as tie
+use Rattle.tables.proofs.entry.rank_on.Statement.{statement}
+use Rattle.tables.proofs.entry.rank_on.Tie as tie
 
 element-copy-out-wide : tie.Need-element-copy-out-wide
 element-copy-out-wide c = search needs
