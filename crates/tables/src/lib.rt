@@ -11,6 +11,13 @@ mod shape;
 mod totals;
 mod upward;
 mod visit;
+mod blocks;
+mod entry;
+mod fill;
+mod labels;
+mod sets;
+mod shape;
+mod totals;
 
 pub use blocks::block_size;
 pub use blocks::first_occurrence;

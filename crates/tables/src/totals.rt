@@ -9,18 +9,8 @@ ghost use Rattle.tables.specs.Promise.{up-entries, down-entries};
 ghost use Rattle.tables.specs.Fill.{Opened, Small, Countable, kinds-from};
 use super::shape::Shape;
 use super::shape::shape_of;
-
-fn wide(x: u8) -> usize
-    ensures { λ r. ⌜ (r ≡ x) × (r < 256) ⌝ }
-{
-    x as usize
-}
-
-fn span(x: u16) -> usize
-    ensures { λ r. ⌜ (r ≡ x) × (r < 65536) ⌝ }
-{
-    x as usize
-}
+use super::shape::span;
+use super::shape::wide;
 
 fn long(x: u8) -> u64
     ensures { λ r. ⌜ (r ≡ x) × (r < 256) ⌝ }
@@ -51,7 +41,11 @@ fn choices(v: Shape, counts: &[u8]) -> u64
 }
 
 // The up entries of all productions.
-pub fn total_up(book: &[u8], places: &[usize; book::limits::MAX_PRODUCTIONS as usize], counts: &[u8]) -> u64
+pub fn total_up(
+    book: &[u8],
+    places: &[usize; book::limits::MAX_PRODUCTIONS as usize],
+    counts: &[u8],
+) -> u64
     requires { ⌜ Opened (now book) (now places) × Small (now book) (now counts) ⌝ }
     ensures { λ r. ⌜ (r ≡ up-entries (grammar (now (book .entry))) (now (counts .entry))) × (r ≤ max-prods * max-members ^ max-kids) ⌝ }
 {
@@ -74,7 +68,12 @@ fn choices_down(v: Shape, counts: &[u8], feasible: &[u8]) -> u64
 }
 
 // The down entries of all productions.
-pub fn total_down(book: &[u8], places: &[usize; book::limits::MAX_PRODUCTIONS as usize], counts: &[u8], feasible: &[u8]) -> u64
+pub fn total_down(
+    book: &[u8],
+    places: &[usize; book::limits::MAX_PRODUCTIONS as usize],
+    counts: &[u8],
+    feasible: &[u8],
+) -> u64
     requires { ⌜ Opened (now book) (now places) × Small (now book) (now counts) × Small (now book) (now feasible) ⌝ }
     ensures { λ r. ⌜ (r ≡ down-entries (grammar (now (book .entry))) (now (counts .entry)) (now (feasible .entry))) × (r ≤ max-prods * max-members ^ (1 + max-kids)) ⌝ }
 {
