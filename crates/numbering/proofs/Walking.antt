@@ -95,7 +95,7 @@ none-held = holding-none (length-replicate {A = ℕ} labels-known 0) (length-rep
 module _ {b l w ends entries g stamps numbers g′ : List ℕ} {e wide r : ℕ} (sheeted : Sheeted b l) (room : settings-of (grammar b) l ≤ length g)
     (ee : e ≡ getD entries 0 0) (ew : wide ≡ grammar b .settings (grammar b .left (getD l 0 0)))
     (o : Slot w e 0 wide 0 1 0 (replicate labels-known 0) (replicate labels-known 0) g stamps numbers g′ r) where
-  pub walking-begins : Walking b l w ends entries g stamps numbers g′ r 0
+  pub walking-begins : Walking b l w ends entries g′ stamps numbers g′ r 0
   unfolding settings-of
   walking-begins = record {
     within = omega arith;
@@ -103,9 +103,9 @@ module _ {b l w ends entries g stamps numbers g′ : List ℕ} {e wide r : ℕ} 
     stamps-long = o .stamps-kept ∙ length-replicate {A = ℕ} labels-known 0;
     numbers-long = o .numbers-kept ∙ length-replicate {A = ℕ} labels-known 0;
     latest = λ x. omega (arith, o .given [] [] [] [] none-held .0 .latest x);
-    room = room;
-    long = o .long;
-    beyond = o .beyond (settings-of (grammar b) l) (omega (arith, settings-inside (grammar b) l 0 (sheeted .some)));
+    room = omega (arith, o .long);
+    long = refl;
+    beyond = refl;
     walked = λ t c d u en ent.
         let T = tables c d u w in
         let f = t .tree in
@@ -132,6 +132,15 @@ module _ {b l w ends entries g stamps numbers g′ : List ℕ} {e wide r : ℕ} 
           let z : settings-of (grammar b) (take 0 l) ≡ 0 = nothing in
           let fits : 0 + length numbers-of ≤ length g = omega (arith, settings-inside (grammar b) l 0 (sheeted .some), room) in
           ap₂ (λ x y. part x y g′) z (sym long) ∙ ap (part 0 (length numbers-of)) eg ∙ place-this g 0 numbers-of fits ∙ ns
+
+  -- what lies beyond the settings is as it came
+  pub beyond-root : {g″ : List ℕ} {next : ℕ} → Given b l w ends entries g′ g″ next → Given b l w ends entries g g″ next
+  beyond-root a = record {
+    all = λ t c d u en ent.
+        let (er, eg) = a .all t c d u en ent in
+        (er, eg ∙ ap (λ s. group-numbers (grammar b) (tables c d u w) (t .tree) .list ++ s)
+        (o .beyond (settings-of (grammar b) l) (omega (arith, ew, settings-inside (grammar b) l 0 (sheeted .some)))));
+  }
 
 module _ {b l w ends entries g₀ stamps numbers g : List ℕ} {next i : ℕ} (k : Walking b l w ends entries g₀ stamps numbers g next i) where
   -- a node whose parent has been visited has its numbers

@@ -6,6 +6,7 @@ use Prim.Native.Nat.{ℕ, zero, suc, _+_, _*_, _≤_, _<_}
 use lib.ListN.{length, getD, take, drop}
 use Rattle.lists.specs.Pick.{pick}
 use Rattle.lists.specs.Part.{part, place}
+use Rattle.chains.specs.Limits.{max-nodes}
 use Rattle.chains.specs.Grammar.{Grammar}
 use Rattle.chains.specs.Tree.{Bush, size}
 use Rattle.book.specs.Format.{grammar}
@@ -22,6 +23,7 @@ rows plausible feasible entries i (suc n) = getD plausible i 0 ∷ getD feasible
 
 -- firsts has the place of each node's first setting among those of the sheet l
 pub record Firsts (G : Grammar) (l firsts : List ℕ) : Type 0 where
+  pub long : length firsts ≡ max-nodes
   pub each : (m : ℕ) → m < length l → getD firsts m 0 ≡ settings-of G (take m l)
 
 -- ── who holds a label ──
