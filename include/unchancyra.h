@@ -1,7 +1,7 @@
 /*
  * Unchancyra for C: the checks of a grammar book and of a tree sheet.
  *
- * Link libservice.a (x86-64 Linux). It needs nothing but what it holds: no C library, no heap, no start-up call.
+ * Link libservice.a (x86-64 Linux). Of the C library it calls memcpy and memset alone; it needs no heap and no start-up call.
  *
  * A slice is a pointer and a length: `book` points to `book_length` readable bytes, `sheet` to `sheet_length`.
  * The caller owns them before, during and after the call. The call only reads them, writes nothing anywhere but its own
@@ -10,9 +10,9 @@
  * With length 0 nothing is read through the pointer, which may then be NULL; NULL with another length is not allowed.
  * No object in C is longer than PTRDIFF_MAX bytes, and neither may a slice be.
  *
- * Every answer is one number: 0 where all is accepted, else the refusal's number times 65,536 plus its place. Each is given for
- * every content of the slices: there is no input on which a call fails, stops or does not return. It uses less than
- * 8 KiB of stack, at whatever depth the sheet's tree stands.
+ * Every answer is one number: 0 where all is accepted, else the refusal's number times 65,536 plus its place. One is given for
+ * every content of the slices: there is no input on which a call fails, stops or does not return. A call takes less than
+ * 16 KiB of stack (144 bytes for each level of the tree that it stands in, at most 65 of them, and 1.2 KiB besides).
  */
 #ifndef UNCHANCYRA_H
 #define UNCHANCYRA_H

@@ -10,7 +10,7 @@ use Rattle.book.specs.Answer.{said}
 use Rattle.book.specs.Format.{kinds, prods}
 use Rattle.book.specs.Refusals.{Applies, turn, BookDue}
 
-rows-orderly : Orderly turn (λ f. f .0) (λ f. f .1)
+pub rows-orderly : Orderly turn (λ f. f .0) (λ f. f .1)
 rows-orderly = record { long = λ j k. refl; one = λ j k e. (cc, cc) }
 
 -- what an answer says is the whole of it

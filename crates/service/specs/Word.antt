@@ -1,6 +1,5 @@
 -- An answer as one number: 0 where all is accepted, else the refusal's number times 65,536 plus its place.
 use mathlib.Core.Path.{_≡_}
-use mathlib.Core.List.{List}
 use Prim.Native.Nat.{ℕ, _+_, _*_, _<_}
 use Rattle.lists.specs.Refusals.{Said, accepted, refused}
 

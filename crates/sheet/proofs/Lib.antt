@@ -1,8 +1,8 @@
-pub mod Answers
-pub mod Legible
-pub mod Once
 pub mod Reading
 pub mod Refusals
-pub mod Stops
+pub mod Once
 pub mod Trees
+pub mod Accepted
+pub mod Stops
 pub mod Walk
+pub mod Answers

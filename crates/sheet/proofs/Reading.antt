@@ -1,12 +1,10 @@
 -- Laws of reading: what is due at a position is one thing, and each byte read stood where it was due.
-use mathlib.Core.Path.{_≡_, refl, sym, ap, subst, _∙_}
-use mathlib.Core.Logic.{_⊎_, inl, inr}
+use mathlib.Core.Path.{_≡_, sym, ap, subst, _∙_}
 use mathlib.Core.List.{List, [], _∷_, _++_}
 use Prim.Native.Nat.{ℕ, zero, suc, _+_, _≤_, _<_}
 use native.Mathlib.Decide.{decLt}
 use native.Mathlib.Omega.{arith}
 use lib.ListN.{length, getD, take}
-use lib.Seq.{take-suc}
 use Rattle.chains.specs.Limits.{max-levels}
 use Rattle.chains.specs.Grammar.{Grammar, Heads}
 use Rattle.sheet.specs.Reading.{Node, due, Read, begun, further, settings-of}

@@ -1,25 +1,21 @@
 -- From what the reader finds to what is due by the table.
-use mathlib.Core.Path.{_≡_, refl, sym, ap, subst, _∙_}
+use mathlib.Core.Path.{_≡_, refl, sym, subst}
 use mathlib.Core.Logic.{_⊎_, inl, inr}
-use mathlib.Core.Bool.{true, false}
 use mathlib.Core.List.{List, [], _∷_}
-use Prim.Native.Nat.{ℕ, zero, suc, _+_, _≤_, _<_}
+use Prim.Native.Nat.{ℕ, _≤_, _<_}
 use native.Mathlib.Decide.{decLt}
 use native.Mathlib.Omega.{arith}
-use lib.Dec.{ltb}
-use lib.ListN.{length, getD}
+use lib.ListN.{length}
 use borrow.Author.Tests.{lt-ltb, le-ltb}
-use Rattle.lists.specs.Pick.{pick}
-use Rattle.lists.specs.Refusals.{Said, accepted, refused, Sooner}
-use Rattle.lists.proofs.Refusals.{Orderly, due-once}
-use Rattle.chains.specs.Limits.{max-nodes, max-levels}
-use Rattle.chains.specs.Grammar.{Grammar, Heads}
-use Rattle.book.specs.Format.{grammar, prods}
+use Rattle.lists.specs.Refusals.{accepted, refused, Sooner}
+use Rattle.chains.specs.Limits.{max-nodes}
+use Rattle.chains.specs.Grammar.{Grammar}
+use Rattle.book.specs.Format.{grammar}
 use Rattle.book.specs.Refusals as book
 use Rattle.sheet.specs.Reading.{Node, Read, settings-of}
 use Rattle.sheet.specs.Refusals.{Applies, of-book, bad-length, no-production, other-kind, ends-early, bytes-left, too-deep, turn, SheetDue}
-use Rattle.sheet.specs.Stops.{Unknown, Unfit, Deep, Fault, unknown, unfit, deep, Stop}
-use Rattle.sheet.specs.Walk.{Sound}
+use Rattle.sheet.specs.Stops.{Fault, unknown, unfit, deep, Stop}
+use Rattle.sheet.specs.Trees.{Sound}
 use Rattle.sheet.proofs.Reading.{Passed, read-once, passed, read-within}
 
 -- a row of the sheet's table is the book's, the one of the length, or a fault met in reading
@@ -46,7 +42,7 @@ fault-applies {p = p} {ds = []} r (deep u) = absurd u
 fault-applies {p = p} {ds = d ∷ ds} r (deep u) = too-deep p (d .0) (d .1) ds r (u .0) (u .1)
 
 -- ── numbers and turns ──
-book-low : {b : List ℕ} {n p : ℕ} → book.Applies b n p → n < 20
+pub book-low : {b : List ℕ} {n p : ℕ} → book.Applies b n p → n < 9
 book-low (book.short h) = omega arith
 book-low (book.other-edition h) = omega arith
 book-low (book.out-of-range h) = omega arith
@@ -56,10 +52,15 @@ book-low (book.bad-kids p h q) = omega arith
 book-low (book.bad-ties p h q) = omega arith
 book-low (book.headless k h q) = omega arith
 
-fault-high : {G : Grammar} {l : List ℕ} {i n : ℕ} {ds : List Node} → Fault G l i ds n → 20 < n
+pub fault-high : {G : Grammar} {l : List ℕ} {i n : ℕ} {ds : List Node} → Fault G l i ds n → 20 < n
 fault-high (unknown u) = omega arith
 fault-high (unfit u) = omega arith
 fault-high (deep u) = omega arith
+
+pub fault-low : {G : Grammar} {l : List ℕ} {i n : ℕ} {ds : List Node} → Fault G l i ds n → n < 24
+fault-low (unknown u) = omega arith
+fault-low (unfit u) = omega arith
+fault-low (deep u) = omega arith
 
 -- below 21 turns go as in the book's table: by number, then by place
 sooner-low : (m q n p : ℕ) → n < 21 → Sooner (turn (m, q)) (turn (n, p)) → Sooner (m ∷ q ∷ []) (n ∷ p ∷ [])

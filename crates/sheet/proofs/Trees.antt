@@ -1,13 +1,13 @@
 -- A sheet is accepted exactly when it is the preorder list of a tree under the start of at most 64 levels, and then of one only.
-use mathlib.Core.Path.{_≡_, refl, sym, ap, ap₂, subst, _∙_}
-use mathlib.Core.Logic.{_⊎_, inl, inr, _↔_}
+use mathlib.Core.Path.{_≡_, refl, sym, ap, subst, _∙_}
+use mathlib.Core.Logic.{inl, inr, _↔_}
 use mathlib.Core.List.{List, [], _∷_, _++_, append-assoc, append-nil, head-eq-of-cons-eq, tail-eq-of-cons-eq}
 use Prim.Native.Nat.{ℕ, zero, suc, _+_, _≤_, _<_}
 use native.Mathlib.Decide.{decLe, decLt, ℕ-discrete}
 use native.Mathlib.Nat.{add-zero}
 use native.Mathlib.Omega.{arith}
 use lib.ListN.{length, getD, drop, length-append, length-drop}
-use lib.Seq.{drop-cons, drop-length, drop-drop}
+use lib.Seq.{drop-cons, drop-length}
 use Rattle.lists.specs.Refusals.{accepted}
 use Rattle.chains.specs.Limits.{max-nodes, max-levels}
 use Rattle.chains.specs.Grammar.{Grammar, Heads}
@@ -16,7 +16,7 @@ use Rattle.chains.proofs.Read.{one-forest}
 use Rattle.book.specs.Format.{grammar}
 use Rattle.sheet.specs.Reading.{Node, due, Read, begun, further, settings-of}
 use Rattle.sheet.specs.Refusals.{Applies, of-book, bad-length, no-production, other-kind, ends-early, bytes-left, too-deep, SheetDue}
-use Rattle.sheet.specs.Walk.{Sound}
+use Rattle.sheet.specs.Trees.{Sound, Drawn, Fits}
 use Rattle.sheet.proofs.Refusals.{read-accepted}
 
 -- the forest meets what is due
@@ -80,12 +80,6 @@ size-flat : (f : Bush) → length (flat f) ≡ size f
 size-flat nil = refl
 size-flat (grow p cs rest) = let a = size-flat cs in let b = size-flat rest in omega (arith, length-append (flat cs) (flat rest))
 
--- a tree under the start, of at most 64 levels, with these bytes as its preorder list
-pub record Drawn (G : Grammar) (l : List ℕ) (f : Bush) : Type 0 where
-  pub kinded : Kinded G f (G .start ∷ [])
-  pub shallow : Shallow max-levels f 1
-  pub bytes : flat f ≡ l
-
 pub read-drawn : {G : Grammar} {l : List ℕ} → Read G l (length l) [] → (f : Bush) × Drawn G l f
 read-drawn {G} {l} r =
     let (f, m, e) = grown G l r nil tt (sym (drop-length l)) in
@@ -134,21 +128,14 @@ module _ (b l : List ℕ) (free : (n p : ℕ) → Applies b l n p → ⊥) where
       go [] r = r
       go (d ∷ ds) r = absurd (free 22 (length l) (ends-early d ds r))
 
--- what an accepted sheet is
-pub record Fits (b l : List ℕ) : Type 0 where
-  pub sound : Sound b
-  pub some : 1 ≤ length l
-  pub few : length l ≤ max-nodes
-  pub tree : Bush
-  pub drawn : Drawn (grammar b) l tree
-
 -- THEOREM: a sheet is accepted exactly when its book is, it has 1 to 4,096 bytes, and some tree under the start, of at most 64 levels, has these bytes
 pub sheet-tree : (b l cs : List ℕ) → SheetDue b l (accepted cs) ↔ (Fits b l × (cs ≡ length l ∷ settings-of (grammar b) l ∷ []))
-sheet-tree b l cs =
-    ( λ (e, none). let free : (n p : ℕ) → Applies b l n p → ⊥ = λ n p a. none (n, p) a in
-        let (f, d) = read-drawn (free-read b l free) in
-        (record { sound = free-sound b l free; some = free-length b l free .0; few = free-length b l free .1; tree = f; drawn = d }, e)
-    , λ (w, e). (e, read-accepted (w .sound) (w .some) (w .few) (drawn-read (w .drawn)) .1) )
+sheet-tree b l cs = (
+  λ (e, none). let free : (n p : ℕ) → Applies b l n p → ⊥ = λ n p a. none (n, p) a in
+      let (f, d) = read-drawn (free-read b l free) in
+      (record { sound = free-sound b l free; some = free-length b l free .0; few = free-length b l free .1; tree = f; drawn = d }, e),
+  λ (w, e). (e, read-accepted (w .sound) (w .some) (w .few) (drawn-read (w .drawn)) .1),
+)
 
 -- THEOREM: and then it is one tree only
 pub one-tree : {G : Grammar} {l : List ℕ} {f g : Bush} → Drawn G l f → Drawn G l g → f ≡ g

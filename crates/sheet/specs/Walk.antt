@@ -3,33 +3,21 @@ use mathlib.Core.Path.{_≡_}
 use mathlib.Core.List.{List, [], _∷_}
 use Prim.Native.Nat.{ℕ, suc, _+_, _*_, _≤_, _<_}
 use lib.ListN.{length, getD, take}
-use Rattle.chains.specs.Limits.{max-kinds, max-prods, max-settings, max-nodes, max-levels}
+use Rattle.chains.specs.Limits.{max-settings, max-nodes, max-levels}
 use Rattle.chains.specs.Grammar.{Heads}
-use Rattle.book.specs.Refusals as book
-use Rattle.book.specs.Format.{grammar, prods, start, kind-at, arity-at, entry}
+use Rattle.book.specs.Format.{grammar, entry}
+use Rattle.book.proofs.Accepted.{Accepted}
 use Rattle.sheet.specs.Reading.{Node, Read, settings-of}
 use Rattle.sheet.specs.Stops.{Stop}
+use Rattle.sheet.specs.Trees.{Sound}
 use Rattle.sheet.specs.declared.reader.Found.{Found}
 use Rattle.sheet.specs.declared.reader.Found.the-variants.{Entry, Unfit}
 use Rattle.sheet.specs.declared.reader.Walk.{Walk}
 use Rattle.sheet.specs.declared.reader.Walk.the-variants as walk
 
--- no row of the book's table applies
-abbrev pub Sound : List ℕ → Type 0
-Sound b = (f : ℕ × ℕ) → book.Applies b (f .0) (f .1) → ⊥
-
--- what reading needs of such a book
-pub record Legible (b : List ℕ) : Type 0 where
-  pub trailed : 12 ≤ length b
-  pub few-prods : prods b ≤ max-prods
-  pub start-low : start b < max-kinds
-  pub in-front : (k : ℕ) → kind-at b k ≡ 2 * k
-  pub whole : (p : ℕ) → p < prods b → entry b p + 2 + arity-at b (entry b p) ≤ length b
-  pub few-settings : (p : ℕ) → p < prods b → grammar b .settings (grammar b .left p) ≤ max-settings
-
 -- a position in a sheet of lawful length, or its end
 pub record Position (b l : List ℕ) (i : ℕ) : Type 0 where
-  pub legible : Legible b
+  pub book : Accepted b
   pub few-nodes : length l ≤ max-nodes
   pub within : i ≤ length l
 

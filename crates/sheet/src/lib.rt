@@ -7,8 +7,10 @@ ghost use Prim.Native.Nat.{_<_};
 ghost use Rattle.book.specs.Format.{start};
 ghost use Rattle.sheet.specs.Answer.{said};
 ghost use Rattle.sheet.specs.Refusals.{SheetDue};
-ghost use Rattle.sheet.specs.Walk.{Sound, Finished};
-use reader::{Walk, subtree};
+ghost use Rattle.sheet.specs.Trees.{Sound};
+ghost use Rattle.sheet.specs.Walk.{Finished};
+use reader::Walk;
+use reader::subtree;
 
 // What the check of a sheet answers.
 pub enum SheetChecked {
@@ -81,8 +83,22 @@ fn read(book: &[u8], sheet: &[u8]) -> SheetChecked
         return refused(20, 0);
     }
     let places = book::index(book);
-    match subtree(book, &places, sheet, 0, root_kind(book), limits::MAX_LEVELS, 0) {
+    let root = root_kind(book);
+    match subtree(book, &places, sheet, 0, root, limits::MAX_LEVELS, 0) {
         Walk::Stop { number, place } => SheetChecked::Refused { number, place },
         Walk::Next { at, settings } => ending(book, sheet, at, settings),
+    }
+}
+
+// Refusals 1 to 8 of the book, then 20, then 21 to 23 sought together, from the first byte on.
+pub fn check_sheet(book: &[u8], sheet: &[u8]) -> SheetChecked
+    ensures { λ r. ⌜ SheetDue (now (book .entry)) (now (sheet .entry)) (said r) ⌝ }
+{
+    match book::check_book(book) {
+        book::Checked::Refused { number, place } => SheetChecked::Refused { number, place },
+        book::Checked::Accepted {
+            kinds: _,
+            productions: _,
+        } => read(book, sheet),
     }
 }

@@ -4,7 +4,9 @@ ghost use mathlib.Core.Path.{_≡_};
 ghost use Prim.Native.Nat.{_<_};
 ghost use Rattle.book.specs.Reading.{Index};
 ghost use Rattle.sheet.specs.Walk.{Position, Standing, Looked, Walked};
-use super::{span, wide, word};
+use super::span;
+use super::wide;
+use super::word;
 
 // What stands where a node is due: the place of its production's entry, or the refusal.
 pub enum Found {
@@ -28,8 +30,16 @@ fn unfit(number: u8, at: usize) -> Found
     }
 }
 
-// At one position 21 is sought first, then 22, then 23: so a byte at level 65 is still looked at.
-fn node_at(book: &[u8], places: &[usize; book::limits::MAX_PRODUCTIONS as usize], sheet: &[u8], at: usize, kind: u8, levels: u8) -> Found
+// What stands at `at`, where a node of the kind is due, with so many levels left.
+// At one position 21 is sought first, then 22, then 23: a byte at level 65 is still looked at.
+fn node_at(
+    book: &[u8],
+    places: &[usize; book::limits::MAX_PRODUCTIONS as usize],
+    sheet: &[u8],
+    at: usize,
+    kind: u8,
+    levels: u8,
+) -> Found
     requires { ⌜ Position (now book) (now sheet) at × Index (now book) (now places) ⌝ }
     ensures { λ r. ⌜ Looked (now (book .entry)) (now (sheet .entry)) at kind levels r ⌝ }
 {
@@ -51,7 +61,15 @@ fn node_at(book: &[u8], places: &[usize; book::limits::MAX_PRODUCTIONS as usize]
 }
 
 // Reads the subtree at `at`, where one of the kind is due, with so many levels left, and so many settings before it.
-pub fn subtree(book: &[u8], places: &[usize; book::limits::MAX_PRODUCTIONS as usize], sheet: &[u8], at: usize, kind: u8, levels: u8, settings: u16) -> Walk
+pub fn subtree(
+    book: &[u8],
+    places: &[usize; book::limits::MAX_PRODUCTIONS as usize],
+    sheet: &[u8],
+    at: usize,
+    kind: u8,
+    levels: u8,
+    settings: u16,
+) -> Walk
     requires { ⌜ Standing (now book) (now sheet) at settings × Index (now book) (now places) ⌝ }
     ensures { λ r. ⌜ Walked (now (book .entry)) (now (sheet .entry)) at kind levels r ⌝ }
 {
@@ -63,7 +81,8 @@ pub fn subtree(book: &[u8], places: &[usize; book::limits::MAX_PRODUCTIONS as us
             let mut sum = settings + word(book::settings(book, kind));
             let mut j = 0;
             while j < kids {
-                match subtree(book, places, sheet, next, book::kid(book, entry, j), levels - 1, sum) {
+                let due = book::kid(book, entry, j);
+                match subtree(book, places, sheet, next, due, levels - 1, sum) {
                     Walk::Next { at, settings } => {
                         next = at;
                         sum = settings;

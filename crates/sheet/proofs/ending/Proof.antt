@@ -3,50 +3,34 @@ use Rattle.sheet.proofs.Answers.{ended-accepted, ended-unknown, ended-l
 use borrow.Author.Needs.{needs}
 use Rattle.sheet.proofs.ending.Statement.{statement}
 use Rattle.sheet.proofs.ending.Tie as tie
-use Rattle.sheet.proofs.ending.Reads as reads
-use Rattle.sheet.proofs.ending.Lts as lts
-use Rattle.book.proofs.productions.Reads as productions-reads
-use Rattle.sheet.proofs.refused.Reads as refused-reads
-use Rattle.sheet.proofs.span.Reads as span-reads
-use Rattle.sheet.proofs.wide.Reads as wide-reads
 
--- src/lib.rt:62:20
 cast-t7 : tie.Need-cast-t7
 cast-t7 c = search needs
 
--- src/lib.rt:61:9
 returns : tie.Need-returns
 returns c = ended-accepted (c .before .before .before .pre) (omega arith)
 
--- src/lib.rt:66:13
 productions-requires : tie.Need-productions-requires
 productions-requires c κs = search needs
 
--- src/lib.rt:66:8
 span-requires : tie.Need-span-requires
 span-requires c κs = search needs
 
--- src/lib.rt:66:46
 shared-slice-read-wide : tie.Need-shared-slice-read-wide
 shared-slice-read-wide c = search needs
 
--- src/lib.rt:66:41
 wide-requires : tie.Need-wide-requires
 wide-requires c κs = search needs
 
--- src/lib.rt:67:9
 refused-requires : tie.Need-refused-requires
 refused-requires c κs = search needs
 
--- src/lib.rt:67:9
 returns-2 : tie.Need-returns-2
 returns-2 c = ended-unknown (c .before .before .before .before .before .before .before .before .before .pre) (c .refused .ensures) (omega arith) (omega arith)
 
--- src/lib.rt:69:5
 refused-requires-2 : tie.Need-refused-requires-2
 refused-requires-2 c κs = search needs
 
--- src/lib.rt:56:1
 returns-3 : tie.Need-returns-3
 returns-3 c = ended-left (c .before .before .before .before .before .before .before .before .before .pre) (c .refused2 .ensures) (omega arith) (omega arith)
 

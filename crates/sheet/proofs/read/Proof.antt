@@ -4,59 +4,40 @@ use Rattle.sheet.proofs.Answers.{refused-length, first-standing, walk-f
 use borrow.Author.Needs.{needs}
 use Rattle.sheet.proofs.read.Statement.{statement}
 use Rattle.sheet.proofs.read.Tie as tie
-use Rattle.sheet.proofs.read.Reads as reads
-use Rattle.sheet.proofs.read.Lts as lts
-use Rattle.book.proofs.index.Reads as index-reads
-use Rattle.sheet.proofs.ending.Reads as ending-reads
-use Rattle.sheet.proofs.reader.subtree.Reads as subtree-reads
-use Rattle.sheet.proofs.refused.Reads as refused-reads
-use Rattle.sheet.proofs.root_kind.Reads as root-kind-reads
 
--- src/lib.rt:78:9
 refused-requires : tie.Need-refused-requires
 refused-requires c κs = search needs
 
--- src/lib.rt:78:9
 returns : tie.Need-returns
 returns c = refused-length _ _ (c .before .before .before .before .pre) (c .refused .ensures) (inl (omega arith))
 
--- src/lib.rt:81:9
 refused-requires-2 : tie.Need-refused-requires-2
 refused-requires-2 c κs = search needs
 
--- src/lib.rt:81:9
 returns-2 : tie.Need-returns-2
 returns-2 c = refused-length _ _ (c .before .before .before .before .before .pre) (c .refused2 .ensures) (inr (omega arith))
 
--- src/lib.rt:83:18
 index-requires : tie.Need-index-requires
 index-requires c κs = search needs
 
--- src/lib.rt:84:44
 root-kind-requires : tie.Need-root-kind-requires
 root-kind-requires c κs = search needs
 
--- src/lib.rt:84:11
 subtree-requires : tie.Need-subtree-requires
 subtree-requires c κs = (first-standing _ _ (c .before .before .before .before .before .before .before .pre) (omega arith), c .before .before .index .ensures)
 
--- src/lib.rt:85:22
 enum-known-number : tie.Need-enum-known-number
 enum-known-number c = search needs
 
--- src/lib.rt:86:22
 enum-known-at : tie.Need-enum-known-at
 enum-known-at c = search needs
 
--- src/lib.rt:86:40
 ending-requires : tie.Need-ending-requires
-ending-requires c κs = walk-finished (c .before .before .before .before .before .before .before .before .before .before .before .pre) (omega arith) (omega arith) (c .before .before .before .before .root-kind .ensures) (c .before .before .before .subtree .ensures) (c .before .at .given .1)
+ending-requires c κs = walk-finished (c .before .before .before .before .before .before .before .before .before .before .before .pre) (omega arith) (omega arith) (c .before .before .before .before .before .root-kind .ensures) (c .before .before .before .subtree .ensures) (c .before .at .given .1)
 
--- src/lib.rt:73:1
 returns-3 : tie.Need-returns-3
-returns-3 c = walk-refused (c .before .before .before .before .before .before .before .before .before .before .before .pre) (omega arith) (omega arith) (c .before .before .before .before .root-kind .ensures) (c .before .before .before .subtree .ensures) (c .before .number .given .1)
+returns-3 c = walk-refused (c .before .before .before .before .before .before .before .before .before .before .before .pre) (omega arith) (omega arith) (c .before .before .before .before .before .root-kind .ensures) (c .before .before .before .subtree .ensures) (c .before .number .given .1)
 
--- src/lib.rt:73:1
 returns-4 : tie.Need-returns-4
 returns-4 c = search needs
 

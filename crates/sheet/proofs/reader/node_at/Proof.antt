@@ -1,66 +1,47 @@
 use mathlib.Core.Path.{sym, _∙_}
 use native.Mathlib.Omega.{arith}
 use borrow.Author.Needs.{needs}
-use Rattle.sheet.proofs.Walk.{told-prods, indexed, found-end, found-unknown, found-kind, found-deep, found-fit}
+use Rattle.book.proofs.Accepted.{told-prods}
+use Rattle.sheet.proofs.Walk.{indexed, found-end, found-unknown, found-kind, found-deep, found-fit}
 use Rattle.sheet.proofs.reader.node_at.Statement.{statement}
 use Rattle.sheet.proofs.reader.node_at.Tie as tie
-use Rattle.sheet.proofs.reader.node_at.Reads as reads
-use Rattle.sheet.proofs.reader.node_at.Lts as lts
-use Rattle.book.proofs.left.Reads as left-reads
-use Rattle.book.proofs.productions.Reads as productions-reads
-use Rattle.sheet.proofs.span.Reads as span-reads
-use Rattle.sheet.proofs.reader.unfit.Reads as unfit-reads
-use Rattle.sheet.proofs.wide.Reads as wide-reads
 
--- src/reader.rt:55:9
 unfit-requires : tie.Need-unfit-requires
 unfit-requires c κs = search needs
 
--- src/reader.rt:55:9
 returns : tie.Need-returns
 returns c = found-end (c .before .before .before .before .pre .0) _ _ (c .unfit .ensures) (omega arith)
 
--- src/reader.rt:57:18
 shared-slice-read-wide : tie.Need-shared-slice-read-wide
 shared-slice-read-wide c = search needs
 
--- src/reader.rt:57:9
 wide-requires : tie.Need-wide-requires
 wide-requires c κs = search needs
 
--- src/reader.rt:58:13
 productions-requires : tie.Need-productions-requires
 productions-requires c κs = search needs
 
--- src/reader.rt:58:8
 span-requires : tie.Need-span-requires
 span-requires c κs = search needs
 
--- src/reader.rt:59:9
 unfit-requires-2 : tie.Need-unfit-requires-2
 unfit-requires-2 c κs = search needs
 
--- src/reader.rt:59:9
 returns-2 : tie.Need-returns-2
 returns-2 c = found-unknown (c .before .before .before .before .before .before .before .before .before .pre .0) _ _ (c .unfit2 .ensures) (omega arith) (omega arith)
 
--- src/reader.rt:61:17
 mul-entry : tie.Need-mul-entry
 mul-entry c = search needs
 
--- src/reader.rt:61:17
 element-copy-out-entry : tie.Need-element-copy-out-entry
-element-copy-out-entry c = omega (arith, told-prods (c .before .before .before .before .before .before .before .before .pre .0 .legible), c .before .before .before .before .before .before .before .before .pre .0 .legible .few-prods)
+element-copy-out-entry c = omega (arith, told-prods (c .before .before .before .before .before .before .before .before .pre .0 .book), c .before .before .before .before .before .before .before .before .pre .0 .book .few-prods)
 
--- src/reader.rt:62:8
 left-requires : tie.Need-left-requires
 left-requires c κs = search needs
 
--- src/reader.rt:63:9
 unfit-requires-3 : tie.Need-unfit-requires-3
 unfit-requires-3 c κs = search needs
 
--- src/reader.rt:63:9
 returns-3 : tie.Need-returns-3
 returns-3 c =
     let start = c .before .before .before .before .before .before .before .before .before .before .before .before in
@@ -68,11 +49,9 @@ returns-3 c =
     let at = indexed (start .pre .0) (start .pre .1) (p .ensures .0) (omega arith) in
     found-kind (start .pre .0) _ _ (omega arith) (omega arith) at (c .unfit3 .ensures) (λ e. c .before .if3 .taken (c .before .before .left .ensures ∙ e))
 
--- src/reader.rt:66:9
 unfit-requires-4 : tie.Need-unfit-requires-4
 unfit-requires-4 c κs = search needs
 
--- src/reader.rt:66:9
 returns-4 : tie.Need-returns-4
 returns-4 c =
     let start = c .before .before .before .before .before .before .before .before .before .before .before .before .before in
@@ -80,7 +59,6 @@ returns-4 c =
     let at = indexed (start .pre .0) (start .pre .1) (p .ensures .0) (omega arith) in
     found-deep (start .pre .0) _ _ (omega arith) (omega arith) at (c .unfit4 .ensures) (sym (c .before .before .before .left .ensures) ∙ c .before .before .if3 .left) (omega arith)
 
--- src/reader.rt:50:1
 returns-5 : tie.Need-returns-5
 returns-5 c =
     let start = c .before .before .before .before .before .before .before .before .before .before .before .before in
