@@ -41,4 +41,4 @@ module _ {G : Grammar} {l firsts : List ℕ} {next i : ℕ} (k : Placing G l fir
   }
 
   pub placing-done : length l ≤ i → Firsts G l firsts
-  placing-done h = record { each = λ m n. k .built .done m (omega arith) }
+  placing-done h = record { long = k .built .long; each = λ m n. k .built .done m (omega arith) }

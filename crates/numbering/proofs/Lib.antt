@@ -18,3 +18,5 @@ pub mod Firsts
 pub mod Standing
 pub mod UpReads
 pub mod DownReads
+pub mod Instances
+pub mod Walking

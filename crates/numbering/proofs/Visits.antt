@@ -29,7 +29,7 @@ unfoldable pub owns-of : List Visit → List ℕ
 owns-of [] = []
 owns-of (v ∷ vs) = v .own ++ owns-of vs
 
-owns-append : (vs ws : List Visit) → owns-of (vs ++ ws) ≡ owns-of vs ++ owns-of ws
+pub owns-append : (vs ws : List Visit) → owns-of (vs ++ ws) ≡ owns-of vs ++ owns-of ws
 unfolding owns-of
 owns-append [] ws = refl
 owns-append (v ∷ vs) ws = ap (λ t. v .own ++ t) (owns-append vs ws) ∙ sym (append-assoc (v .own) (owns-of vs) (owns-of ws))

@@ -6,11 +6,12 @@ use Prim.Native.Nat.{ℕ, zero, suc, _+_, _*_, _≤_, _<_}
 use lib.ListN.{length, getD, take, drop}
 use Rattle.lists.specs.Pick.{pick}
 use Rattle.lists.specs.Part.{part, place}
+use Rattle.chains.specs.Limits.{max-nodes}
 use Rattle.chains.specs.Grammar.{Grammar}
 use Rattle.chains.specs.Tree.{Bush, size}
 use Rattle.book.specs.Format.{grammar}
 use Rattle.sheet.specs.Reading.{settings-of}
-use Rattle.numbering.specs.Walk.{Tables, Held, holder, holds, held, numbered, unused, slot-labels, kid-labels, group-numbers}
+use Rattle.numbering.specs.Walk.{Tables, Held, holder, holds, held, numbered, unused, slot-labels, kid-labels, own-held, group-numbers}
 use Rattle.numbering.specs.Promise.{TreeOf}
 use Rattle.numbering.specs.Visits.{entry-in, visit}
 use Rattle.numbering.specs.Parts.{tables, Ended, child-at}
@@ -22,6 +23,7 @@ rows plausible feasible entries i (suc n) = getD plausible i 0 ∷ getD feasible
 
 -- firsts has the place of each node's first setting among those of the sheet l
 pub record Firsts (G : Grammar) (l firsts : List ℕ) : Type 0 where
+  pub long : length firsts ≡ max-nodes
   pub each : (m : ℕ) → m < length l → getD firsts m 0 ≡ settings-of G (take m l)
 
 -- ── who holds a label ──
@@ -90,6 +92,23 @@ pub record Family (G : Grammar) (l w : List ℕ) (e p : ℕ) (ends : List ℕ) (
       → ((m : ℕ) → m < length l → Written G l g m (F m) → Written G l g′ m (F m))
       × ((j : ℕ) → j < length (G .kids p) → Written G l g′ (child-at ends i j) (F (child-at ends i j))))
 
+-- node i is visited: its own settings hold their labels, then its children's settings are numbered; F m are the numbers that node m is to have
+pub record Instance (G : Grammar) (l w : List ℕ) (e : ℕ) (ends : List ℕ) (i next : ℕ) (stamps numbers g stamps′ numbers′ g′ : List ℕ) (r : ℕ) : Type 0 where
+  pub stamps-kept : length stamps′ ≡ length stamps
+  pub numbers-kept : length numbers′ ≡ length numbers
+  pub long : length g′ ≡ length g
+  pub beyond : drop (settings-of G l) g′ ≡ drop (settings-of G l) g
+  pub latest : ((x : ℕ) → getD stamps x 0 ≤ i + 1) → (x : ℕ) → getD stamps′ x 0 ≤ i + 2
+  pub given : ((x : ℕ) → getD stamps x 0 ≤ i + 1) → (own c d u : List ℕ) → Written G l g i own →
+      let p = getD l i 0 in
+      let hs = own-held G (tables c d u w) p e own in
+      let xs = kid-labels G (tables c d u w) e 1 (G .kids p) in
+      (r ≡ unused hs next xs)
+      × ((F : ℕ → List ℕ)
+      → ((j : ℕ) → j < length (G .kids p) → F (child-at ends i j) ≡ part (kinds-width G (take j (G .kids p))) (G .settings (getD (G .kids p) j 0)) (numbered hs next xs))
+      → ((m : ℕ) → m < length l → Written G l g m (F m) → Written G l g′ m (F m))
+      × ((j : ℕ) → j < length (G .kids p) → Written G l g′ (child-at ends i j) (F (child-at ends i j))))
+
 -- entries has the down entry of each node
 abbrev pub Entered : Grammar → Tables → Bush → List ℕ → Type 0
 Entered G T f entries = (i : ℕ) → i < size f → getD entries i 0 ≡ entry-in G T (visit G T f i)
@@ -103,7 +122,7 @@ pub record Walkable (b l w ends entries : List ℕ) : Type 0 where
   pub up : List ℕ
   pub entered : Entered (grammar b) (tables counts feasible-counts up w) (tree-of .tree) entries
 
-pub record Given (b l w entries g g′ : List ℕ) (r : ℕ) : Type 0 where
-  pub all : (t : TreeOf (grammar b) l) (c d u : List ℕ) → Entered (grammar b) (tables c d u w) (t .tree) entries
+pub record Given (b l w ends entries g g′ : List ℕ) (r : ℕ) : Type 0 where
+  pub all : (t : TreeOf (grammar b) l) (c d u : List ℕ) → Ended (t .tree) 0 0 ends → Entered (grammar b) (tables c d u w) (t .tree) entries
       → (r ≡ group-numbers (grammar b) (tables c d u w) (t .tree) .next)
       × (g′ ≡ group-numbers (grammar b) (tables c d u w) (t .tree) .list ++ drop (settings-of (grammar b) l) g)

@@ -7,7 +7,7 @@ ghost use Rattle.chains.specs.Limits.{max-kids, max-settings, max-nodes};
 ghost use Rattle.book.specs.Format.{prods, grammar};
 ghost use Rattle.sheet.specs.Reading.{settings-of};
 ghost use Rattle.numbering.specs.Parts.{Indexed, Sheeted, Children};
-ghost use Rattle.numbering.specs.Giving.{labels-known, Firsts, Held-one, Held-own, Slot, Kinds, Family, Walkable, Given};
+ghost use Rattle.numbering.specs.Giving.{labels-known, Firsts, Held-one, Held-own, Slot, Kinds, Family, Instance, Walkable, Given};
 use super::limits::{LABELS, NODES, PRODUCTIONS};
 use super::{span, wide, word};
 
@@ -96,24 +96,36 @@ fn number_kids(book: &[u8], places: &[usize; PRODUCTIONS], sheet: &[u8], p: usiz
     next
 }
 
+// Node i: its own settings hold their labels, then its children's settings are numbered. Its stamp is later than those of the nodes before it.
+fn number_node(book: &[u8], places: &[usize; PRODUCTIONS], sheet: &[u8], down: &[u8], entry: u64, ends: &[u16; NODES], firsts: &[u16; NODES], i: usize, first: u16, stamps: &mut [u16; LABELS], held: &mut [u16; LABELS], groups: &mut [u16]) -> u16
+    requires { ⌜ Indexed (now book) (now places) × (i < length (now sheet)) × (getD (now sheet) i 0 < prods (now book)) × (first ≤ max-settings * max-nodes)
+        × Children (now ends) i (length (grammar (now book) .kids (getD (now sheet) i 0))) × Kinds (grammar (now book)) (now sheet) (now ends) i (getD (now sheet) i 0)
+        × Firsts (grammar (now book)) (now sheet) (now firsts) × (settings-of (grammar (now book)) (now sheet) ≤ length (now groups))
+        × (length (now ends) ≡ max-nodes) × (length (now firsts) ≡ max-nodes) × (length (now stamps) ≡ labels-known) × (length (now held) ≡ labels-known) ⌝ }
+    ensures { λ r. ⌜ Instance (grammar (now (book .entry))) (now (sheet .entry)) (now (down .entry)) entry (now (ends .entry)) i first
+        (now (stamps .entry)) (now (held .entry)) (now (groups .entry)) (now (stamps .exit)) (now (held .exit)) (now (groups .exit)) r ⌝ }
+{
+    let p = wide(sheet[i]);
+    let width = wide(book::settings(book, book::left(book, places[p])));
+    let stamp = i as u16 + 2;
+    hold_own(down, entry, width, span(firsts[i]), stamp, groups, stamps, held);
+    number_kids(book, places, sheet, p, down, entry, ends, firsts, i, stamp, first, stamps, held, groups)
+}
+
 // All settings: the root's own first, then at each node its children's. Gives the number of groups.
 pub fn number_all(book: &[u8], places: &[usize; PRODUCTIONS], sheet: &[u8], down: &[u8], ends: &[u16; NODES], entries: &[u64; NODES], groups: &mut [u16]) -> u16
     requires { ⌜ Indexed (now book) (now places) × Sheeted (now book) (now sheet) × Walkable (now book) (now sheet) (now down) (now ends) (now entries)
         × (settings-of (grammar (now book)) (now sheet) ≤ length (now groups)) × (length (now ends) ≡ max-nodes) × (length (now entries) ≡ max-nodes) ⌝ }
-    ensures { λ r. ⌜ Given (now (book .entry)) (now (sheet .entry)) (now (down .entry)) (now (entries .entry)) (now (groups .entry)) (now (groups .exit)) r ⌝ }
+    ensures { λ r. ⌜ Given (now (book .entry)) (now (sheet .entry)) (now (down .entry)) (now (ends .entry)) (now (entries .entry)) (now (groups .entry)) (now (groups .exit)) r ⌝ }
 {
     let firsts = first_places(book, places, sheet);
     let mut stamps = [0u16; LABELS];
     let mut held = [0u16; LABELS];
-    let root = wide(book::settings(book, book::left(book, places[wide(sheet[0])])));
-    let mut next = number_slot(down, entries[0], 0, root, 0, 1, 0, &mut stamps, &mut held, groups);
+    let width = wide(book::settings(book, book::left(book, places[wide(sheet[0])])));
+    let mut next = number_slot(down, entries[0], 0, width, 0, 1, 0, &mut stamps, &mut held, groups);
     let mut i = 0;
     while i < sheet.len() {
-        let p = wide(sheet[i]);
-        let width = wide(book::settings(book, book::left(book, places[p])));
-        let stamp = i as u16 + 2;
-        hold_own(down, entries[i], width, span(firsts[i]), stamp, groups, &mut stamps, &mut held);
-        next = number_kids(book, places, sheet, p, down, entries[i], ends, &firsts, i, stamp, next, &mut stamps, &mut held, groups);
+        next = number_node(book, places, sheet, down, entries[i], ends, &firsts, i, next, &mut stamps, &mut held, groups);
         i += 1;
     }
     next
