@@ -1,3 +1,14 @@
+pub mod StateLoops
+pub mod StateNumbers
+pub mod StatesSeen
+pub mod StateKept
+pub mod StateTidy
+pub mod State
+pub mod StateBase
+pub mod StateWalk
+pub mod Choosing
+pub mod Gathering
+pub mod StateEntry
 pub mod Members
 pub mod Cleared
 pub mod Memory
@@ -15,3 +26,10 @@ pub mod Carried
 pub mod StateBase
 pub mod StateWalk
 pub mod StateEntry
+pub mod Yielding
+pub mod Visiting
+pub mod Opening
+pub mod Planning
+pub mod Sweeping
+pub mod UpwardVisit
+pub mod UpwardSweep

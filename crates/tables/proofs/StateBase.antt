@@ -40,10 +40,10 @@ module _ {b : List ℕ} (a : Accepted b) (p : ℕ) (l : p < prods b) where
   abbrev at : ℕ
   at = entry b p
 
-  few-kids : arity-at b at ≤ max-kids
+  pub few-kids : arity-at b at ≤ max-kids
   few-kids = omega (arith, arity-read a p l, a .lawful .few-kids p l)
 
-  width-is : (t : ℕ) → t ≤ arity-at b at → width-in b at t ≡ width G p t
+  pub width-is : (t : ℕ) → t ≤ arity-at b at → width-in b at t ≡ width G p t
   width-is t h = rw (le-ltb (arity-at b at) t h) (settings-read a (kind-in b at t) ∙ ap (G .settings) (kind-in-read a p l t (omega (arith, arity-read a p l))))
 
   no-width : (t : ℕ) → arity-at b at < t → width-in b at t ≡ 0

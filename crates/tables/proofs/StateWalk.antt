@@ -71,7 +71,7 @@ tidy-result G p {s} st t Codes Open x = (
     from o q h = fwd done (tidy-shown st o q .1 h)
 
 -- the code that a state shows on slot t is the only one that says so
-code-only : (A : ℕ) {s : List ℕ} → State s → (t : ℕ) → t ≤ max-kids → A ≤ max-settings → Whole s t A → (x : ℕ)
+pub code-only : (A : ℕ) {s : List ℕ} → State s → (t : ℕ) → t ≤ max-kids → A ≤ max-settings → Whole s t A → (x : ℕ)
     → Says A x (λ a b. Eqv (Shown s) (t, a) (t, b)) ↔ (x ≡ code-on t A s)
 code-only A {s} st t ht hw w x =
     let c = code-says s t A hw (omega (arith, st .long)) w in
@@ -79,7 +79,7 @@ code-only A {s} st t ht hw w x =
 
 module _ (G : Grammar) (p : ℕ) {s : List ℕ} (st : State s) (j : ℕ) (hj : j ≤ max-kids) (hw : width G p j ≤ max-settings) (w : Whole s j (width G p j)) where
   -- what is left after slot j is tied and dropped
-  step-result : (c t : ℕ) (Codes : ℕ → ℕ → Type 0) (Open : ℕ → Type 0) (x : ℕ)
+  pub step-result : (c t : ℕ) (Codes : ℕ → ℕ → Type 0) (Open : ℕ → Type 0) (x : ℕ)
       → Result G p t Codes Open (Remaining (Outside j) (TiedTo G p j c (Shown s))) x ↔ Result G p t Codes Open (Shown (stepped s j (width G p j) c)) x
   step-result c t Codes Open x =
       let a = turned G p j c hw s w (omega (arith, st .long)) t Codes Open x in

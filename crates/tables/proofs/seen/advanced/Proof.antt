@@ -1,0 +1,18 @@
+-- The counter goes round. Assumes nothing.
+use borrow.Author.Needs.{needs}
+use borrow.Author.Tests.{lt-ltb, le-ltb}
+use native.Mathlib.Omega.{arith}
+use Rattle.tables.proofs.seen.advanced.Statement.{statement}
+use Rattle.tables.proofs.seen.advanced.Tie as tie
+
+add-result : tie.Need-add-result
+add-result c = search needs
+
+returns : tie.Need-returns
+returns c = rw (lt-ltb _ _ (c .if1 .taken))
+
+returns-2 : tie.Need-returns-2
+returns-2 c = rw (le-ltb _ _ (c .if1 .left))
+
+pub advanced-spec : {M : Type 1} → statement M
+advanced-spec = tie.close (tie.spec add-result returns returns-2)

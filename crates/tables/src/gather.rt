@@ -1,0 +1,113 @@
+// What comes of all choices of codes for a production's slots, gathered into one kind's set.
+ghost use mathlib.Core.Path.{_≡_};
+ghost use Prim.Native.Nat.{suc, _<_, _≤_};
+ghost use lib.ListN.{length, getD};
+ghost use Rattle.chains.specs.Limits.{max-kids};
+ghost use Rattle.chains.specs.State.{code-on};
+ghost use Rattle.ranks.specs.Entries.{labels};
+ghost use Rattle.tables.specs.Memory.{Put};
+ghost use Rattle.tables.specs.Visit.{Ready, Standing, InOrder, released, chosen, Request, Reply};
+
+use super::labels::LABELS;
+use super::labels::NONE;
+use super::labels::copy_state;
+use super::labels::forget;
+use super::labels::tidy;
+use super::labels::tie;
+use super::labels::view;
+use super::seen::known;
+use super::seen::remember;
+use super::sets::MAX_MEMBERS;
+use super::sets::Turn;
+use super::sets::put;
+
+// Slots of a production: the left kind and its children.
+pub const SLOTS: usize = 5;
+
+// A visit of a production: the slots whose codes are chosen, in turn, the last one first, each with its number of settings and of codes; and the
+// slot that the results are seen on, with its number of settings and its kind.
+pub struct Visit {
+    pub slots: [u8; SLOTS],
+    pub widths: [u8; SLOTS],
+    pub sizes: [u8; SLOTS],
+    pub target: u8,
+    pub width: u8,
+    pub kind: u8,
+}
+
+fn wide(x: u8) -> usize
+    ensures { λ r. ⌜ (r ≡ x) × (r < 256) ⌝ }
+{
+    x as usize
+}
+
+// A slot dropped, unless it is the one that the results are seen on.
+fn release(t: &mut [u8; LABELS], slot: u8, target: u8)
+    requires { ⌜ (length (now t) ≡ labels) × (slot ≤ max-kids) ⌝ }
+    ensures { λ _. ⌜ now (t .exit) ≡ released slot target (now (t .entry)) ⌝ }
+{
+    if slot != target {
+        forget(t, slot);
+    }
+}
+
+// The state s once turn j has chosen a code: tied to its slot, and the slot released.
+fn choose(v: Visit, j: usize, code: u32, s: &[u8; LABELS], t: &mut [u8; LABELS])
+    requires { ⌜ Ready v (suc j) × (j < 5) × Standing v (suc j) (now s) × (length (now t) ≡ labels) ⌝ }
+    ensures { λ _. ⌜ now (t .exit) ≡ chosen v j code (now (s .entry)) ⌝ }
+{
+    let slot = v.slots[j];
+    copy_state(s, t, 0);
+    tie(t, slot, v.widths[j], code);
+    release(t, slot, v.target);
+    tidy(t);
+}
+
+// All turns are over: what the state says on the slot looked at is put into the kind's set.
+fn enter(v: Visit, s: &[u8; LABELS], sets: &mut [u32], counts: &mut [u8]) -> Turn
+    requires { ⌜ Ready v 0 × Standing v 0 (now s) × InOrder (v .kind) (now sets) (now counts) ⌝ }
+    ensures { λ r. ⌜ Put (v .kind) (code-on (v .target) (v .width) (now (s .entry))) (now (sets .entry)) (now (counts .entry)) (now (sets .exit)) (now (counts .exit)) r ⌝ }
+{
+    put(sets, counts, wide(v.kind), view(s, v.target, v.width))
+}
+
+// Whatever comes of the state s by choices for the turns before j is put into the kind's set. The state may have been met before: then all of that is
+// there.
+pub fn gather(
+    v: Visit,
+    j: usize,
+    s: &[u8; LABELS],
+    lists: &[u32],
+    seen: &mut [u8],
+    sets: &mut [u32],
+    counts: &mut [u8],
+) -> Turn
+    requires { ⌜ Request v (now lists) j (now s) (now seen) (now sets) (now counts) ⌝ }
+    ensures { λ r. ⌜ Reply v (now (lists .entry)) j (now (s .entry)) (now (sets .entry)) (now (counts .entry)) (now (seen .exit)) (now (sets .exit)) (now (counts .exit)) r ⌝ }
+{
+    if j == 0 {
+        return enter(v, s, sets, counts);
+    }
+    if known(seen, j, s) {
+        return Turn::Still;
+    }
+    let n = wide(v.sizes[j - 1]);
+    let mut t = [NONE; LABELS];
+    let mut added = false;
+    let mut i = 0;
+    while i < n {
+        choose(v, j - 1, lists[(j - 1) * MAX_MEMBERS + i], s, &mut t);
+        match gather(v, j - 1, &t, lists, seen, sets, counts) {
+            Turn::Still => {}
+            Turn::Added => {
+                added = true;
+            }
+            Turn::Full => {
+                return Turn::Full;
+            }
+        }
+        i += 1;
+    }
+    remember(seen, j, s);
+    if added { Turn::Added } else { Turn::Still }
+}
