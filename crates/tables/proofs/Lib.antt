@@ -33,3 +33,9 @@ pub mod Planning
 pub mod Sweeping
 pub mod UpwardVisit
 pub mod UpwardSweep
+pub mod Shapes
+pub mod EntryCounts
+pub mod FillRuns
+pub mod FillEntry
+pub mod FillChoices
+pub mod FillState

@@ -10,3 +10,4 @@ pub mod Visit
 pub mod Memory
 pub mod Sweep
 pub mod Upward
+pub mod Fill

@@ -10,3 +10,7 @@ pub use blocks::first_occurrence;
 pub use blocks::occurrences;
 mod visit;
 mod upward;
+mod sets;
+mod shape;
+mod totals;
+mod fill;

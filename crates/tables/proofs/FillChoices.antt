@@ -1,0 +1,141 @@
+-- The entries of all choices of members for a production's slots: slot by slot, and of each slot rank by rank.
+use mathlib.Core.Path.{_≡_, refl, sym, ap, ap₂, _∙_, subst}
+use mathlib.Core.List.{List, [], _∷_}
+use Prim.Native.Nat.{ℕ, zero, suc, _+_, _-_, _*_, _≤_, _<_}
+use native.Mathlib.Nat.{one-mul}
+use native.Mathlib.Numerals.{add-one}
+use native.Mathlib.Omega.{arith}
+use lib.ListN.{length, getD}
+use Rattle.chains.specs.Limits.{max-settings, max-kids, max-members}
+use Rattle.chains.specs.Labels.{joins}
+use Rattle.chains.specs.State.{code-pairs}
+use Rattle.ranks.specs.Entries.{choices, choice}
+use Rattle.ranks.proofs.Digits.{digit-once}
+use Rattle.ranks.proofs.Numbers.{choice-below}
+use Rattle.tables.specs.Sets.{member}
+use Rattle.tables.specs.Entries.{Ranks, picked}
+use Rattle.tables.specs.State.{Present, Whole, spot}
+use Rattle.tables.specs.Fill.{kind-of, width-of, kinds-from, Sized, Ready, tied-once, tied, InPlace, Entry, entry-size, Rankable, Laid, chosen, Choices, Asked}
+use Rattle.tables.specs.declared.shape.Shape.{Shape}
+use Rattle.tables.specs.declared.fill.Table.{Table}
+use Rattle.tables.proofs.State.{tie-means}
+use Rattle.tables.proofs.Shapes.{kinds-step, kinds-none}
+use Rattle.tables.proofs.FillRuns.{Behind, laid-map, laid-count, Blocks, blocks-begun, blocks-room, blocks-next, blocks-done}
+
+-- ── a slot ──
+module _ (v : Shape) {t i k : ℕ} (e : i ≡ t) (e′ : k ≡ kind-of v i) where
+  pub slot-kind : k ≡ kind-of v t
+  slot-kind = e′ ∙ ap (kind-of v) e
+
+  pub slot-count : (c : List ℕ) {n : ℕ} → n ≡ getD c k 0 → n ≡ getD c (kind-of v t) 0
+  slot-count c q = q ∙ ap (λ (k : ℕ). getD c k 0) slot-kind
+
+  pub slot-there : (r : ℕ) {n : ℕ} → kind-of v t * max-members + r < n → k * max-members + r < n
+  slot-there r h = rw slot-kind h
+
+  pub slot-tied : (s x : List ℕ) (r : ℕ) {x′ : List ℕ} → x′ ≡ joins x (code-pairs t (width-of v i) (member s k r)) → x′ ≡ tied-once v t (member s (kind-of v t) r) x
+  slot-tied s x r q = q ∙ ap₂ (λ (w y : ℕ). joins x (code-pairs t w y)) (ap (width-of v) e) (ap (λ (k : ℕ). member s k r) slot-kind)
+
+-- a slot tied leaves a state, with the settings of every slot
+pub tie-ready : {v : Shape} {x : List ℕ} → Sized v → Ready v x → (t y : ℕ) → t ≤ v .arity → Ready v (tied-once v t y x)
+tie-ready {v} {x} z h t y l =
+    let m = tie-means (h .state) t (width-of v t) y (z .widths t l) (h .whole t l) in
+    record { state = m .state; whole = λ u k i b. m .present (spot u i) .1 (h .whole u k i b) }
+
+module _ (table : Table) (v : Shape) (t : ℕ) (s c f d : List ℕ) where
+  -- ── no slot is left ──
+  -- the choices for no kinds: one, and it ties nothing
+  none-rankable : (x ks : List ℕ) → ks ≡ [] → ((rs : List ℕ) → Ranks c ks rs → Rankable table f d v (chosen v t s ks rs x)) → Rankable table f d v x
+  unfolding picked tied
+  none-rankable x ks e h = subst (λ ks. (rs : List ℕ) → Ranks c ks rs → Rankable table f d v (chosen v t s ks rs x)) e h [] tt
+
+  none-count : (ks : List ℕ) → ks ≡ [] → choices c ks ≡ 1
+  unfolding choices
+  none-count ks e = ap (choices c) e
+
+  none-laid : (x : List ℕ) {ks out : List ℕ} {a : ℕ} {out′ : List ℕ} {z : ℕ} → ks ≡ [] → Laid (entry-size table) 1 (λ i e. Entry table f d v x e) out a out′ z
+      → Laid (entry-size table) (choices c ks) (Choices table v t s c f d ks x) out a out′ z
+  unfolding picked tied choices
+  none-laid x {ks} {out} {a} {out′} {z} e h =
+      subst (λ ks. Laid (entry-size table) (choices c ks) (Choices table v t s c f d ks x) out a out′ z) (sym e) (laid-map h (λ i l b q rs r n. q))
+
+  -- ── the ranks of a slot, whose kind is k; ks are the kinds behind it ──
+  -- the entries of rank r stand behind those of the ranks before it
+  rank-behind : (x : List ℕ) (k : ℕ) (ks : List ℕ) (r : ℕ)
+      → Behind (r * choices c ks) (choices c ks) (Choices table v t s c f d (k ∷ ks) x) (Choices table v (suc t) s c f d ks (tied-once v t (member s k r) x))
+  unfolding picked tied choice
+  rank-behind x k ks r i l b q [] h e = absurd h
+  rank-behind x k ks r i l b q (u ∷ rs) h e =
+      let (first, rest) = digit-once u (choice c ks rs) r i (choice-below c ks rs (h .1)) l e in
+      subst (λ u. Entry table f d v (tied v (suc t) (picked s ks rs) (tied-once v t (member s k u) x)) b) (sym first) (q rs (h .1) rest)
+
+  rank-rankable : (x : List ℕ) (k : ℕ) (ks : List ℕ) (r : ℕ) → r < getD c k 0 → ((rs : List ℕ) → Ranks c (k ∷ ks) rs → Rankable table f d v (chosen v t s (k ∷ ks) rs x))
+      → (rs : List ℕ) → Ranks c ks rs → Rankable table f d v (chosen v (suc t) s ks rs (tied-once v t (member s k r) x))
+  unfolding picked tied
+  rank-rankable x k ks r l h rs m = h (r ∷ rs) (l, m)
+
+module _ {table : Table} {v : Shape} {t : ℕ} {s c f d x out : List ℕ} {a : ℕ} (h : Asked table v t s c f d x out a) where
+  -- ── the last slot is tied ──
+  module _ (l : v .arity < t) where
+    pub leaf-asks : InPlace f d v x × Rankable table f d v x × (a + entry-size table ≤ length out)
+    leaf-asks =
+        let e = kinds-none v t l in
+        let n = none-count table v t s c f d (kinds-from v t) e in
+        let g : a + 1 * entry-size table ≤ length out = rw n at (h .room) in
+        (h .standing, none-rankable table v t s c f d x (kinds-from v t) e (h .rankable), omega (arith, one-mul (entry-size table)))
+
+    pub leaf-laid : {out′ : List ℕ} {z : ℕ} → Laid (entry-size table) 1 (λ i e. Entry table f d v x e) out a out′ z
+        → Laid (entry-size table) (choices c (kinds-from v t)) (Choices table v t s c f d (kinds-from v t) x) out a out′ z
+    leaf-laid k = none-laid table v t s c f d x (kinds-none v t l) k
+
+  -- ── the n ranks of slot t, one after another ──
+  module _ (l : t ≤ v .arity) {n : ℕ} (e : n ≡ getD c (kind-of v t) 0) where
+    abbrev ks : List ℕ
+    ks = kinds-from v (suc t)
+
+    abbrev Turning : List ℕ → ℕ → ℕ → Type 0
+    Turning out′ z r = Blocks (entry-size table) (choices c ks) n (Choices table v t s c f d (kinds-from v t) x) out a out′ z r
+
+    all-choices : choices c (kinds-from v t) ≡ n * choices c ks
+    unfolding choices
+    all-choices = ap (choices c) (kinds-step v t l) ∙ ap (λ (n : ℕ). n * choices c ks) (sym e)
+
+    pub turn-begun : Turning out a 0
+    turn-begun =
+        blocks-begun (entry-size table) (choices c ks) n (Choices table v t s c f d (kinds-from v t) x) out a
+        (subst (λ (m : ℕ). a + m * entry-size table ≤ length out) all-choices (h .room))
+
+    pub turn-placed : {r : ℕ} → r < n → kind-of v t * max-members + r < length s
+    turn-placed k = let p = h .choose t l in omega (arith, p .there, p .few)
+
+    module _ {out′ : List ℕ} {z r : ℕ} (g : Turning out′ z r) where
+      abbrev x′ : List ℕ
+      x′ = tied-once v t (member s (kind-of v t) r) x
+
+      module _ (m : r < n) where
+        next-asked : Asked table v (suc t) s c f d x′ out′ z
+        next-asked = record {
+          standing = record { sized = h .standing .sized; placed = h .standing .placed; ready = tie-ready (h .standing .sized) (h .standing .ready) t (member s (kind-of v t) r) l };
+          choose = h .choose;
+          within = omega arith;
+          rankable = rank-rankable table v t s c f d x (kind-of v t) ks r (omega arith)
+              (subst (λ ks. (rs : List ℕ) → Ranks c ks rs → Rankable table f d v (chosen v t s ks rs x)) (kinds-step v t l) (h .rankable));
+          room = blocks-room g m;
+        }
+
+        -- what the next slot asks for
+        pub turn-asks : {y : List ℕ} → y ≡ x′ → Asked table v (t + 1) s c f d y out′ z
+        turn-asks q = rw (q, add-one t) next-asked
+
+        -- and what it brings
+        pub turn-next : {y : List ℕ} {out″ : List ℕ} {z′ : ℕ} → y ≡ x′
+            → Laid (entry-size table) (choices c (kinds-from v (t + 1))) (Choices table v (t + 1) s c f d (kinds-from v (t + 1)) y) out′ z out″ z′
+            → Turning out″ z′ (r + 1)
+        turn-next {y} {out″} {z′} q k =
+            let k′ : Laid (entry-size table) (choices c ks) (Choices table v (suc t) s c f d ks x′) out′ z out″ z′ = rw (q, add-one t) at k in
+            blocks-next g m k′
+            (subst (λ u. Behind (r * choices c ks) (choices c ks) (Choices table v t s c f d u x) (Choices table v (suc t) s c f d ks x′)) (sym (kinds-step v t l))
+            (rank-behind table v t s c f d x (kind-of v t) ks r))
+
+      pub turn-done : n ≤ r → Laid (entry-size table) (choices c (kinds-from v t)) (Choices table v t s c f d (kinds-from v t) x) out a out′ z
+      turn-done m = laid-count (blocks-done g m) (sym all-choices)

@@ -1,0 +1,178 @@
+-- The entries of the two tables while they are counted and written: the shape of a production, the states that its choices come to, and what an
+-- entry has from a state. No promise of the library cites this page.
+use mathlib.Core.Path.{_≡_}
+use mathlib.Core.List.{List, [], _∷_}
+use Prim.Native.Nat.{ℕ, zero, suc, _+_, _-_, _*_, _≤_, _<_}
+use lib.ListN.{length, getD, take}
+use Rattle.lists.specs.Part.{part, place}
+use Rattle.chains.specs.Limits.{max-settings, max-kids, max-members}
+use Rattle.chains.specs.Grammar.{Grammar, width}
+use Rattle.chains.specs.Labels as labelling
+use Rattle.chains.specs.Labels.{joins}
+use Rattle.chains.specs.State.{code-pairs, code-on}
+use Rattle.book.specs.Format.{kinds, arity-at}
+use Rattle.book.specs.Reading.{kind-in, Index}
+use Rattle.book.proofs.Accepted.{Accepted}
+use Rattle.ranks.specs.Entries.{choices, choice, labels, entry-bytes, none}
+use Rattle.tables.specs.Sets.{Has, member}
+use Rattle.tables.specs.Entries.{Ranks, picked, Upward, Ranked}
+use Rattle.tables.specs.Memory.{Placed, Fine}
+use Rattle.tables.specs.State.{State, Whole, tidied, width-in}
+use Rattle.tables.specs.declared.shape.Shape.{Shape}
+use Rattle.tables.specs.declared.fill.Table.{Table}
+use Rattle.tables.specs.declared.fill.Table.the-variants.{Up, Down}
+
+-- ── the shape of a production ──
+abbrev pub max-slots : ℕ
+max-slots = suc max-kids
+
+-- the kind of slot t, and its number of settings
+abbrev pub kind-of : Shape → ℕ → ℕ
+kind-of v t = getD (v .kinds) t 0
+
+abbrev pub width-of : Shape → ℕ → ℕ
+width-of v t = getD (v .widths) t 0
+
+-- the kinds of the slots from t on
+unfoldable pub kinds-from : Shape → ℕ → List ℕ
+kinds-from v t = labelling.labels (kind-of v) t (suc (v .arity) - t)
+
+-- v is the shape of the production whose entry stands at `at`
+pub record ShapeAt (b : List ℕ) (at : ℕ) (v : Shape) : Type 0 where
+  pub arity : v .arity ≡ arity-at b at
+  pub kinds : (t : ℕ) → t < max-slots → kind-of v t ≡ kind-in b at t
+  pub widths : (t : ℕ) → t < max-slots → width-of v t ≡ width-in b at t
+
+-- ── what the counting leans on ──
+-- the book is accepted, and its entries stand at these places
+pub record Opened (b places : List ℕ) : Type 0 where
+  pub book : Accepted b
+  pub index : Index b places
+
+-- every kind of the book has its count, of a set that is not over-full
+pub record Small (b c : List ℕ) : Type 0 where
+  pub here : kinds b ≤ length c
+  pub few : (k : ℕ) → k < kinds b → getD c k 0 ≤ max-members
+
+-- the same for the kinds of one production
+pub record Countable (v : Shape) (c : List ℕ) : Type 0 where
+  pub arity : v .arity ≤ max-kids
+  pub here : (t : ℕ) → t ≤ v .arity → kind-of v t < length c
+  pub few : (t : ℕ) → t ≤ v .arity → getD c (kind-of v t) 0 ≤ max-members
+
+-- the slots fit their places in a state, and the counts theirs
+pub record Sized (v : Shape) : Type 0 where
+  pub arity : v .arity ≤ max-kids
+  pub widths : (t : ℕ) → t ≤ v .arity → width-of v t ≤ max-settings
+
+-- each slot's kind has its places in the sets s, and its count in c
+abbrev pub AllPlaced : Shape → List ℕ → List ℕ → Type 0
+AllPlaced v s c = (t : ℕ) → t ≤ v .arity → Placed s c (kind-of v t)
+
+-- ── states ──
+-- x is a state in which the settings of each slot are there
+pub record Ready (v : Shape) (x : List ℕ) : Type 0 where
+  pub state : State x
+  pub whole : (t : ℕ) → t ≤ v .arity → Whole x t (width-of v t)
+
+-- x once the code y is tied to slot t
+abbrev pub tied-once : Shape → ℕ → ℕ → List ℕ → List ℕ
+tied-once v t y x = joins x (code-pairs t (width-of v t) y)
+
+-- x once the codes ys are tied to the slots from t on
+unfoldable pub tied : Shape → ℕ → List ℕ → List ℕ → List ℕ
+tied v t [] x = x
+tied v t (y ∷ ys) x = tied v (suc t) ys (tied-once v t y x)
+
+-- x is a state of a production of shape v, and the kinds have their places in the sets f, counted by d
+pub record InPlace (f d : List ℕ) (v : Shape) (x : List ℕ) : Type 0 where
+  pub sized : Sized v
+  pub placed : AllPlaced v f d
+  pub ready : Ready v x
+
+-- ── what an entry has from the state x ──
+-- the code that x shows on slot t is among those that f has of its kind, counted by d
+abbrev pub Listed : (f d : List ℕ) → Shape → ℕ → List ℕ → Type 0
+Listed f d v t x = Has f d (kind-of v t) (code-on t (width-of v t) x)
+
+-- and r is its rank there
+pub record RankOn (f d : List ℕ) (v : Shape) (t : ℕ) (x : List ℕ) (r : ℕ) : Type 0 where
+  pub below : r < getD d (kind-of v t) 0
+  pub is : member f (kind-of v t) r ≡ code-on t (width-of v t) x
+
+-- r is that of child j, from 0 on, or none where there is none
+pub record ChildRank (f d : List ℕ) (v : Shape) (x : List ℕ) (j r : ℕ) : Type 0 where
+  pub there : j < v .arity → RankOn f d v (suc j) x r
+  pub missing : v .arity ≤ j → r ≡ none
+
+pub record DownBytes (f d : List ℕ) (v : Shape) (x e : List ℕ) : Type 0 where
+  pub blocks : take labels e ≡ tidied x
+  pub ranks : (j : ℕ) → j < max-kids → ChildRank f d v x j (getD e (labels + j) none)
+
+-- the ranks of the first n children, put over what `out` has from a on
+pub record ChildRanks (f d : List ℕ) (v : Shape) (x : List ℕ) (n : ℕ) (out : List ℕ) (a : ℕ) (out′ : List ℕ) : Type 0 where
+  pub list : List ℕ
+  pub many : length list ≡ n
+  pub each : (j : ℕ) → j < n → ChildRank f d v x j (getD list j none)
+  pub held : out′ ≡ place a list out
+  pub long : length out′ ≡ length out
+
+-- an entry of the up table is the rank of slot 0; one of the down table the labels, then the children's ranks
+abbrev pub Entry : Table → (f d : List ℕ) → Shape → List ℕ → List ℕ → Type 0
+Entry Up f d v x e = RankOn f d v 0 x (getD e 0 none)
+Entry Down f d v x e = DownBytes f d v x e
+
+-- and takes so many places
+abbrev pub entry-size : Table → ℕ
+entry-size Up = 1
+entry-size Down = entry-bytes
+
+-- what is to be ranked can be
+abbrev pub Rankable : Table → (f d : List ℕ) → Shape → List ℕ → Type 0
+Rankable Up f d v x = Listed f d v 0 x
+Rankable Down f d v x = (j : ℕ) → j < v .arity → Listed f d v (suc j) x
+
+-- ── runs of entries ──
+-- l has n entries of w places each, of which the i-th has Q i
+pub record Run (w n : ℕ) (Q : ℕ → List ℕ → Type 0) (l : List ℕ) : Type 0 where
+  pub long : length l ≡ n * w
+  pub each : (i : ℕ) → i < n → Q i (part (i * w) w l)
+
+-- such a run put over what `out` has from a on, up to z
+pub record Laid (w n : ℕ) (Q : ℕ → List ℕ → Type 0) (out : List ℕ) (a : ℕ) (out′ : List ℕ) (z : ℕ) : Type 0 where
+  pub bytes : List ℕ
+  pub run : Run w n Q bytes
+  pub held : out′ ≡ place a bytes out
+  pub long : length out′ ≡ length out
+  pub ends : z ≡ a + n * w
+
+-- the i-th entry has what P says for the ranks whose number i is
+abbrev pub ByRanks : (c ks : List ℕ) → (List ℕ → List ℕ → Type 0) → ℕ → List ℕ → Type 0
+ByRanks c ks P i e = (rs : List ℕ) → Ranks c ks rs → choice c ks rs ≡ i → P rs e
+
+-- ── the entries of a state ──
+-- the members of s with these ranks, tied to the slots from t on, whose kinds are ks
+abbrev pub chosen : Shape → ℕ → (s ks rs x : List ℕ) → List ℕ
+chosen v t s ks rs x = tied v t (picked s ks rs) x
+
+-- the entries of all choices for the slots from t on; s and c are chosen from, f and d ranked in
+abbrev pub Choices : Table → Shape → ℕ → (s c f d ks x : List ℕ) → ℕ → List ℕ → Type 0
+Choices table v t s c f d ks x = ByRanks c ks (λ rs e. Entry table f d v (chosen v t s ks rs x) e)
+
+-- what is asked before they are written
+pub record Asked (table : Table) (v : Shape) (t : ℕ) (s c f d x out : List ℕ) (a : ℕ) : Type 0 where
+  pub standing : InPlace f d v x
+  pub choose : AllPlaced v s c
+  pub within : t ≤ suc (v .arity)
+  pub rankable : (rs : List ℕ) → Ranks c (kinds-from v t) rs → Rankable table f d v (chosen v t s (kinds-from v t) rs x)
+  pub room : a + choices c (kinds-from v t) * entry-size table ≤ length out
+
+-- ── the entries of a production of the grammar ──
+-- s and c hold, for each of the first n kinds, exactly what has P
+pub record Exact (n : ℕ) (P : ℕ → ℕ → Type 0) (s c : List ℕ) : Type 0 where
+  pub fine : Fine n P s c
+  pub whole : (k x : ℕ) → k < n → P k x → Has s c k x
+
+-- production p's entries of the up table, by their number among them
+abbrev pub UpRun : Grammar → (s c : List ℕ) → ℕ → ℕ → List ℕ → Type 0
+UpRun G s c p = ByRanks c (G .kids p) (λ rs e. Ranked s c (width G p 0) (G .left p) 0 (Upward G p (picked s (G .kids p) rs)) (getD e 0 none))

@@ -1,0 +1,165 @@
+// The entries of the up and the down table. They are written one behind another: production after production, of each the choices with the first
+// child's rank counting most, so that the place of an entry is where the one before it ends.
+ghost use mathlib.Core.Path.{_≡_};
+ghost use Prim.Native.Nat.{suc, _+_, _*_, _<_, _≤_};
+ghost use lib.ListN.{length, getD};
+ghost use Rattle.lists.specs.Part.{place};
+ghost use Rattle.chains.specs.Limits.{max-kids, max-members};
+ghost use Rattle.ranks.specs.Entries.{choices, labels, entry-bytes};
+ghost use Rattle.tables.specs.Sets.{member};
+ghost use Rattle.tables.specs.State.{State, tidied};
+ghost use Rattle.tables.specs.Fill.{kind-of, kinds-from, Sized, Ready, tied-once, InPlace, Listed, RankOn, ChildRank, ChildRanks, Rankable, Entry, entry-size, Laid, Choices, Asked};
+use super::labels::LABELS;
+use super::labels::NONE;
+use super::labels::base;
+use super::labels::copy_state;
+use super::labels::tidy;
+use super::labels::tie;
+use super::labels::view;
+use super::sets::MAX_MEMBERS;
+use super::sets::count;
+use super::sets::rank;
+use super::shape::Shape;
+use super::shape::shape_of;
+
+// Which table an entry belongs to.
+pub enum Table {
+    Up,
+    Down,
+}
+
+const CHILDREN: usize = book::limits::MAX_CHILDREN as usize;
+
+// Bytes of a down entry: a label for each occurrence, then a rank for each child.
+const ENTRY: usize = LABELS + CHILDREN;
+
+fn wide(x: u8) -> usize
+    ensures { λ r. ⌜ (r ≡ x) × (r < 256) ⌝ }
+{
+    x as usize
+}
+
+// ---- one entry
+
+// The rank of the code that the state shows on a slot.
+fn rank_on(v: Shape, slot: usize, s: &[u8; LABELS], sets: &[u32], counts: &[u8]) -> u8
+    requires { ⌜ InPlace (now sets) (now counts) v (now s) × (slot ≤ v .arity) × Listed (now sets) (now counts) v slot (now s) ⌝ }
+    ensures { λ r. ⌜ RankOn (now (sets .entry)) (now (counts .entry)) v slot (now (s .entry)) r ⌝ }
+{
+    let kind = wide(v.kinds[slot]);
+    let code = view(s, slot as u8, v.widths[slot]);
+    rank(sets, kind, count(counts, kind), code) as u8
+}
+
+// The rank of a child, from 0 on; NONE where there is no such child.
+fn child_rank(v: Shape, j: usize, s: &[u8; LABELS], sets: &[u32], counts: &[u8]) -> u8
+    requires { ⌜ InPlace (now sets) (now counts) v (now s) × (j < v .arity → Listed (now sets) (now counts) v (suc j) (now s)) ⌝ }
+    ensures { λ r. ⌜ ChildRank (now (sets .entry)) (now (counts .entry)) v (now (s .entry)) j r ⌝ }
+{
+    if wide(v.arity) <= j {
+        return NONE;
+    }
+    rank_on(v, j + 1, s, sets, counts)
+}
+
+// The ranks of all children.
+fn put_ranks(v: Shape, s: &[u8; LABELS], sets: &[u32], counts: &[u8], out: &mut [u8], at: usize)
+    requires { ⌜ InPlace (now sets) (now counts) v (now s) × Rankable Table.Down (now sets) (now counts) v (now s) × (at + max-kids ≤ length (now out)) ⌝ }
+    ensures { λ _. ⌜ ChildRanks (now (sets .entry)) (now (counts .entry)) v (now (s .entry)) max-kids (now (out .entry)) at (now (out .exit)) ⌝ }
+{
+    let mut j = 0;
+    while j < CHILDREN {
+        out[at + j] = child_rank(v, j, s, sets, counts);
+        j += 1;
+    }
+}
+
+// The labels by first appearance.
+fn put_labels(s: &[u8; LABELS], out: &mut [u8], at: usize)
+    requires { ⌜ State (now s) × (at + labels ≤ length (now out)) ⌝ }
+    ensures { λ _. ⌜ now (out .exit) ≡ place at (tidied (now (s .entry))) (now (out .entry)) ⌝ }
+{
+    let mut t = *s;
+    tidy(&mut t);
+    copy_state(&t, out, at);
+}
+
+// An up entry: the rank of what the state shows on slot 0. The answer is the place behind it.
+fn put_up(v: Shape, s: &[u8; LABELS], sets: &[u32], counts: &[u8], out: &mut [u8], at: usize) -> usize
+    requires { ⌜ InPlace (now sets) (now counts) v (now s) × Rankable Table.Up (now sets) (now counts) v (now s) × (at + entry-size Table.Up ≤ length (now out)) ⌝ }
+    ensures { λ r. ⌜ Laid (entry-size Table.Up) 1 (λ i e. Entry Table.Up (now (sets .entry)) (now (counts .entry)) v (now (s .entry)) e) (now (out .entry)) at (now (out .exit)) r ⌝ }
+{
+    out[at] = rank_on(v, 0, s, sets, counts);
+    at + 1
+}
+
+// A down entry: the labels, then the children's ranks.
+fn put_down(v: Shape, s: &[u8; LABELS], sets: &[u32], counts: &[u8], out: &mut [u8], at: usize) -> usize
+    requires { ⌜ InPlace (now sets) (now counts) v (now s) × Rankable Table.Down (now sets) (now counts) v (now s) × (at + entry-size Table.Down ≤ length (now out)) ⌝ }
+    ensures { λ r. ⌜ Laid (entry-size Table.Down) 1 (λ i e. Entry Table.Down (now (sets .entry)) (now (counts .entry)) v (now (s .entry)) e) (now (out .entry)) at (now (out .exit)) r ⌝ }
+{
+    put_labels(s, out, at);
+    put_ranks(v, s, sets, counts, out, at + LABELS);
+    at + ENTRY
+}
+
+fn put_entry(table: Table, v: Shape, s: &[u8; LABELS], sets: &[u32], counts: &[u8], out: &mut [u8], at: usize) -> usize
+    requires { ⌜ InPlace (now sets) (now counts) v (now s) × Rankable table (now sets) (now counts) v (now s) × (at + entry-size table ≤ length (now out)) ⌝ }
+    ensures { λ r. ⌜ Laid (entry-size table) 1 (λ i e. Entry table (now (sets .entry)) (now (counts .entry)) v (now (s .entry)) e) (now (out .entry)) at (now (out .exit)) r ⌝ }
+{
+    match table {
+        Table::Up => put_up(v, s, sets, counts, out, at),
+        Table::Down => put_down(v, s, sets, counts, out, at),
+    }
+}
+
+// ---- the entries of a production
+
+// The number of members that a slot has to choose from.
+fn members_on(v: Shape, slot: u8, counts: &[u8]) -> usize
+    requires { ⌜ (v .arity ≤ max-kids) × (slot ≤ v .arity) × (kind-of v slot < length (now counts)) ⌝ }
+    ensures { λ r. ⌜ r ≡ getD (now (counts .entry)) (kind-of v slot) 0 ⌝ }
+{
+    count(counts, wide(v.kinds[wide(slot)]))
+}
+
+// The state t becomes s with a member tied to a slot.
+fn tie_member(v: Shape, slot: u8, r: usize, sets: &[u32], s: &[u8; LABELS], t: &mut [u8; LABELS])
+    requires { ⌜ Sized v × Ready v (now s) × (slot ≤ v .arity) × (kind-of v slot * max-members + r < length (now sets)) ⌝ }
+    ensures { λ _. ⌜ now (t .exit) ≡ tied-once v slot (member (now (sets .entry)) (kind-of v slot) r) (now (s .entry)) ⌝ }
+{
+    let i = wide(slot);
+    *t = *s;
+    tie(t, slot, v.widths[i], sets[wide(v.kinds[i]) * MAX_MEMBERS + r]);
+}
+
+// The entries of all choices for the slots from `slot` on, in order; the answer is the place behind them.
+fn lay(
+    table: Table,
+    v: Shape,
+    slot: u8,
+    s: &[u8; LABELS],
+    sets: &[u32],
+    counts: &[u8],
+    ranked: &[u32],
+    sizes: &[u8],
+    out: &mut [u8],
+    at: usize,
+) -> usize
+    requires { ⌜ Asked table v slot (now sets) (now counts) (now ranked) (now sizes) (now s) (now out) at ⌝ }
+    ensures { λ r. ⌜ Laid (entry-size table) (choices (now (counts .entry)) (kinds-from v slot)) (Choices table v slot (now (sets .entry)) (now (counts .entry)) (now (ranked .entry)) (now (sizes .entry)) (kinds-from v slot) (now (s .entry))) (now (out .entry)) at (now (out .exit)) r ⌝ }
+{
+    if v.arity < slot {
+        return put_entry(table, v, s, ranked, sizes, out, at);
+    }
+    let n = members_on(v, slot, counts);
+    let mut t = [NONE; LABELS];
+    let mut to = at;
+    let mut r = 0;
+    while r < n {
+        tie_member(v, slot, r, sets, s, &mut t);
+        to = lay(table, v, slot + 1, &t, sets, counts, ranked, sizes, out, to);
+        r += 1;
+    }
+    to
+}

@@ -1,0 +1,89 @@
+// How many entries the two tables have, by the counts of the sets.
+ghost use mathlib.Core.Path.{_≡_};
+ghost use Prim.Native.Nat.{_+_, _*_, _^_, _<_, _≤_};
+ghost use lib.ListN.{length, getD};
+ghost use Rattle.chains.specs.Limits.{max-members, max-kids, max-prods};
+ghost use Rattle.book.specs.Format.{grammar};
+ghost use Rattle.ranks.specs.Entries.{choices};
+ghost use Rattle.tables.specs.Promise.{up-entries, down-entries};
+ghost use Rattle.tables.specs.Fill.{Opened, Small, Countable, kinds-from};
+use super::shape::Shape;
+use super::shape::shape_of;
+
+fn wide(x: u8) -> usize
+    ensures { λ r. ⌜ (r ≡ x) × (r < 256) ⌝ }
+{
+    x as usize
+}
+
+fn span(x: u16) -> usize
+    ensures { λ r. ⌜ (r ≡ x) × (r < 65536) ⌝ }
+{
+    x as usize
+}
+
+fn long(x: u8) -> u64
+    ensures { λ r. ⌜ (r ≡ x) × (r < 256) ⌝ }
+{
+    x as u64
+}
+
+// The number of members of a kind.
+fn count(counts: &[u8], kind: usize) -> u64
+    requires { ⌜ kind < length (now counts) ⌝ }
+    ensures { λ r. ⌜ (r ≡ getD (now (counts .entry)) kind 0) × (r < 256) ⌝ }
+{
+    long(counts[kind])
+}
+
+// The number of choices of a member for each child.
+fn choices(v: Shape, counts: &[u8]) -> u64
+    requires { ⌜ Countable v (now counts) ⌝ }
+    ensures { λ r. ⌜ (r ≡ choices (now (counts .entry)) (kinds-from v 1)) × (r ≤ max-members ^ max-kids) ⌝ }
+{
+    let mut product: u64 = 1;
+    let mut t = wide(v.arity);
+    while 0 < t {
+        product = count(counts, wide(v.kinds[t])) * product;
+        t -= 1;
+    }
+    product
+}
+
+// The up entries of all productions.
+pub fn total_up(book: &[u8], places: &[usize; book::limits::MAX_PRODUCTIONS as usize], counts: &[u8]) -> u64
+    requires { ⌜ Opened (now book) (now places) × Small (now book) (now counts) ⌝ }
+    ensures { λ r. ⌜ (r ≡ up-entries (grammar (now (book .entry))) (now (counts .entry))) × (r ≤ max-prods * max-members ^ max-kids) ⌝ }
+{
+    let n = span(book::productions(book));
+    let mut total: u64 = 0;
+    let mut p = 0;
+    while p < n {
+        total += choices(shape_of(book, places[p]), counts);
+        p += 1;
+    }
+    total
+}
+
+// The down entries of a production: its choices for each feasible grouping of its left kind.
+fn choices_down(v: Shape, counts: &[u8], feasible: &[u8]) -> u64
+    requires { ⌜ Countable v (now counts) × Countable v (now feasible) ⌝ }
+    ensures { λ r. ⌜ (r ≡ getD (now (feasible .entry)) (getD (v .kinds) 0 0) 0 * choices (now (counts .entry)) (kinds-from v 1)) × (r ≤ max-members ^ (1 + max-kids)) ⌝ }
+{
+    count(feasible, wide(v.kinds[0])) * choices(v, counts)
+}
+
+// The down entries of all productions.
+pub fn total_down(book: &[u8], places: &[usize; book::limits::MAX_PRODUCTIONS as usize], counts: &[u8], feasible: &[u8]) -> u64
+    requires { ⌜ Opened (now book) (now places) × Small (now book) (now counts) × Small (now book) (now feasible) ⌝ }
+    ensures { λ r. ⌜ (r ≡ down-entries (grammar (now (book .entry))) (now (counts .entry)) (now (feasible .entry))) × (r ≤ max-prods * max-members ^ (1 + max-kids)) ⌝ }
+{
+    let n = span(book::productions(book));
+    let mut total: u64 = 0;
+    let mut p = 0;
+    while p < n {
+        total += choices_down(shape_of(book, places[p]), counts, feasible);
+        p += 1;
+    }
+    total
+}
