@@ -16,16 +16,8 @@ pub mod Holds
 pub mod Entries
 pub mod Promise
 pub mod BitSets
-pub mod StateLoops
-pub mod StateNumbers
-pub mod StateKept
-pub mod StateTidy
-pub mod State
 pub mod SetMembers
 pub mod Carried
-pub mod StateBase
-pub mod StateWalk
-pub mod StateEntry
 pub mod Yielding
 pub mod Visiting
 pub mod Opening

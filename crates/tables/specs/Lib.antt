@@ -4,10 +4,8 @@ pub mod Promise
 pub mod Memory
 pub mod Blocks
 pub mod State
-pub mod State
 pub mod Seen
 pub mod Visit
-pub mod Memory
 pub mod Sweep
 pub mod Upward
 pub mod Fill
