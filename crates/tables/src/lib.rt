@@ -1,16 +1,15 @@
 // The build: plausible and feasible sets, and the up and down tables over them. Also the blocks of a down entry as sets.
 mod blocks;
+mod fill;
+mod gather;
 mod labels;
 mod seen;
-mod gather;
 mod sets;
+mod shape;
+mod totals;
+mod upward;
+mod visit;
 
 pub use blocks::block_size;
 pub use blocks::first_occurrence;
 pub use blocks::occurrences;
-mod visit;
-mod upward;
-mod sets;
-mod shape;
-mod totals;
-mod fill;
