@@ -88,6 +88,6 @@ module _ {v : Visit} {j : ℕ} {s : List ℕ} (r : Ready v (suc j)) (h : Standin
         state = step-state (h .state) (slot-of v j) (width-of v j) c slot-low width-low here;
         looked-at = step-whole (h .state) (slot-of v j) (width-of v j) c slot-low width-low here (v .target) (v .width) (λ q. eqb-false (slot-of v j) (v .target) e (sym q)) (r .width) (h .looked-at);
         ahead = λ i b.
-          step-whole (h .state) (slot-of v j) (width-of v j) c slot-low width-low here (slot-of v i) (width-of v i) (r .apart i j b (omega arith)) (r .widths i (omega arith))
+            step-whole (h .state) (slot-of v j) (width-of v j) c slot-low width-low here (slot-of v i) (width-of v i) (r .apart i j b (omega arith)) (r .widths i (omega arith))
             (h .ahead i (omega arith));
       }

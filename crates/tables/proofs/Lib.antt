@@ -31,3 +31,5 @@ pub mod FillRuns
 pub mod FillEntry
 pub mod FillChoices
 pub mod FillState
+pub mod Exits
+pub mod Building

@@ -50,10 +50,10 @@ module _ {b : List ℕ} {at : ℕ} {s c : List ℕ} {v v′ : Visit} {j slot : �
     size-is = size-now;
     few = omega (arith, size-now, p .few);
     codes-are = λ r h.
-      let k : r < getD c (kind-in b at slot) 0 = omega (arith, size-now) in
-      ap (λ (u : List ℕ). getD u (j * max-members + r) 0) (o .lists-now)
-      ∙ getD-this l (j * max-members) (members s c (kind-in b at slot)) room r 0 (omega (arith, members-long p))
-      ∙ getD-part (kind-in b at slot * max-members) (getD c (kind-in b at slot) 0) s r 0 k;
+        let k : r < getD c (kind-in b at slot) 0 = omega (arith, size-now) in
+        ap (λ (u : List ℕ). getD u (j * max-members + r) 0) (o .lists-now)
+        ∙ getD-this l (j * max-members) (members s c (kind-in b at slot)) room r 0 (omega (arith, members-long p))
+        ∙ getD-part (kind-in b at slot * max-members) (getD c (kind-in b at slot) 0) s r 0 k;
   }
 
   -- a turn before it
@@ -67,9 +67,9 @@ module _ {b : List ℕ} {at : ℕ} {s c : List ℕ} {v v′ : Visit} {j slot : �
         size-is = q ∙ u .size-is;
         few = omega (arith, u .few);
         codes-are = λ r m.
-          ap (λ (u : List ℕ). getD u (i * max-members + r) 0) (o .lists-now)
-          ∙ getD-before l (j * max-members) (members s c (kind-in b at slot)) room (i * max-members + r) 0 (omega (arith, u .few))
-          ∙ u .codes-are r (omega arith);
+            ap (λ (u : List ℕ). getD u (i * max-members + r) 0) (o .lists-now)
+            ∙ getD-before l (j * max-members) (members s c (kind-in b at slot)) room (i * max-members + r) 0 (omega (arith, u .few))
+            ∙ u .codes-are r (omega arith);
       }
 
 -- THEOREM: one turn more

@@ -112,7 +112,7 @@ module _ {b : List ℕ} (a : Accepted b) (p : ℕ) (l : p < prods b) where
           → Yields v u n (based b (entry b p)) x ↔ Result G p t Codes Open (Tied G p) x
       plan-result Open opened x =
           let y = subst (λ t. Yields v u n (based b (entry b p)) x ↔ Result G p t Codes (Among v n) (Shown (based b (entry b p))) x) (h .target)
-              (yields-result G p v u Codes n planned plan-standing x) in
+          (yields-result G p v u Codes n planned plan-standing x) in
           let o = result-open G p t Codes (Among v n) Open (Shown (based b (entry b p))) x (λ s. (λ (i, k, e). opened s .0 (i, k, sym (turn-slot i k) ∙ e), λ m. back s (opened s .1 m))) in
           let d = base-result a p l t Codes Open x in
           (λ m. d .0 (o .0 (y .0 m)), λ m. y .1 (o .1 (d .1 m)))

@@ -57,7 +57,7 @@ module _ {b : List ℕ} (a : Accepted b) (p : ℕ) (l : p < prods b) where
     yields-up : (x : ℕ) → Yields v u (arity-at b (entry b p)) (based b (entry b p)) x ↔ StepUp (grammar b) (Has s c) p x
     yields-up x =
         let y = plan-result a p l h (omega arith) (omega (arith, few-kids a p l)) inside (λ i k q r e. omega arith) (λ i k. fine-placed f _ (kind-known (suc i) (inside i k)))
-            (CodesOf (grammar b) (Has s c) (Has s c) p) (λ i c k. (λ m. m, λ m. m)) (UpTo (length (grammar b .kids p))) opened x in
+        (CodesOf (grammar b) (Has s c) (Has s c) p) (λ i c k. (λ m. m, λ m. m)) (UpTo (length (grammar b .kids p))) opened x in
         let g = gathered-up (grammar b) (Has s c) (Has s c) p x in
         (λ m. g .0 (y .0 m), λ m. y .1 (g .1 m))
 

@@ -141,10 +141,10 @@ module _ (G : Grammar) (p : ℕ) (v : Visit) (l : List ℕ) (Codes : ℕ → ℕ
   yields-result (suc j) h {s} st x =
       let t = turn-result j h st x in
       let ih : (c : ℕ) → Yields v l j (chosen v j c s) x ↔ Result G p (v .target) Codes (Among v j) (Shown (chosen v j c s)) x
-          = λ c. yields-result j (planned-less h) (chosen-standing (h .ready) st c) x in (
+      = λ c. yields-result j (planned-less h) (chosen-standing (h .ready) st c) x in (
         λ (i, b, y). t .1 (code-of l j i, h .codes-are j (code-of l j i) (omega arith) .1 (i, b, refl), ih (code-of l j i) .0 y),
         λ r.
-          let (c, m, q) = t .0 r in
-          let (i, b, e) = h .codes-are j c (omega arith) .0 m in
-          (i, b, subst (λ c. Yields v l j (chosen v j c s) x) (sym e) (ih c .1 q)),
+            let (c, m, q) = t .0 r in
+            let (i, b, e) = h .codes-are j c (omega arith) .0 m in
+            (i, b, subst (λ c. Yields v l j (chosen v j c s) x) (sym e) (ih c .1 q)),
       )

@@ -9,3 +9,5 @@ pub mod Visit
 pub mod Sweep
 pub mod Upward
 pub mod Fill
+pub mod Answer
+pub mod Making

@@ -85,7 +85,14 @@ fn put_labels(s: &[u8; LABELS], out: &mut [u8], at: usize)
 }
 
 // An up entry: the rank of what the state shows on slot 0. The answer is the place behind it.
-fn put_up(v: Shape, s: &[u8; LABELS], sets: &[u32], counts: &[u8], out: &mut [u8], at: usize) -> usize
+fn put_up(
+    v: Shape,
+    s: &[u8; LABELS],
+    sets: &[u32],
+    counts: &[u8],
+    out: &mut [u8],
+    at: usize,
+) -> usize
     requires { ⌜ InPlace (now sets) (now counts) v (now s) × Rankable Table.Up (now sets) (now counts) v (now s) × (at + entry-size Table.Up ≤ length (now out)) ⌝ }
     ensures { λ r. ⌜ Laid (entry-size Table.Up) 1 (λ i e. Entry Table.Up (now (sets .entry)) (now (counts .entry)) v (now (s .entry)) e) (now (out .entry)) at (now (out .exit)) r ⌝ }
 {
@@ -94,7 +101,14 @@ fn put_up(v: Shape, s: &[u8; LABELS], sets: &[u32], counts: &[u8], out: &mut [u8
 }
 
 // A down entry: the labels, then the children's ranks.
-fn put_down(v: Shape, s: &[u8; LABELS], sets: &[u32], counts: &[u8], out: &mut [u8], at: usize) -> usize
+fn put_down(
+    v: Shape,
+    s: &[u8; LABELS],
+    sets: &[u32],
+    counts: &[u8],
+    out: &mut [u8],
+    at: usize,
+) -> usize
     requires { ⌜ InPlace (now sets) (now counts) v (now s) × Rankable Table.Down (now sets) (now counts) v (now s) × (at + entry-size Table.Down ≤ length (now out)) ⌝ }
     ensures { λ r. ⌜ Laid (entry-size Table.Down) 1 (λ i e. Entry Table.Down (now (sets .entry)) (now (counts .entry)) v (now (s .entry)) e) (now (out .entry)) at (now (out .exit)) r ⌝ }
 {
@@ -103,7 +117,15 @@ fn put_down(v: Shape, s: &[u8; LABELS], sets: &[u32], counts: &[u8], out: &mut [
     at + ENTRY
 }
 
-fn put_entry(table: Table, v: Shape, s: &[u8; LABELS], sets: &[u32], counts: &[u8], out: &mut [u8], at: usize) -> usize
+fn put_entry(
+    table: Table,
+    v: Shape,
+    s: &[u8; LABELS],
+    sets: &[u32],
+    counts: &[u8],
+    out: &mut [u8],
+    at: usize,
+) -> usize
     requires { ⌜ InPlace (now sets) (now counts) v (now s) × Rankable table (now sets) (now counts) v (now s) × (at + entry-size table ≤ length (now out)) ⌝ }
     ensures { λ r. ⌜ Laid (entry-size table) 1 (λ i e. Entry table (now (sets .entry)) (now (counts .entry)) v (now (s .entry)) e) (now (out .entry)) at (now (out .exit)) r ⌝ }
 {
@@ -130,7 +152,12 @@ fn tie_member(v: Shape, slot: u8, r: usize, sets: &[u32], s: &[u8; LABELS], t: &
 {
     let i = wide(slot);
     *t = *s;
-    tie(t, slot, v.widths[i], sets[wide(v.kinds[i]) * MAX_MEMBERS + r]);
+    tie(
+        t,
+        slot,
+        v.widths[i],
+        sets[wide(v.kinds[i]) * MAX_MEMBERS + r],
+    );
 }
 
 // The entries of all choices for the slots from `slot` on, in order; the answer is the place behind them.

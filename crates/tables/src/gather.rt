@@ -7,7 +7,6 @@ ghost use Rattle.chains.specs.State.{code-on};
 ghost use Rattle.ranks.specs.Entries.{labels};
 ghost use Rattle.tables.specs.Memory.{Put};
 ghost use Rattle.tables.specs.Visit.{Ready, Standing, InOrder, released, chosen, Request, Reply};
-
 use super::labels::LABELS;
 use super::labels::NONE;
 use super::labels::copy_state;

@@ -3,6 +3,7 @@ mod blocks;
 mod fill;
 mod gather;
 mod labels;
+mod making;
 mod seen;
 mod sets;
 mod shape;
@@ -13,3 +14,9 @@ mod visit;
 pub use blocks::block_size;
 pub use blocks::first_occurrence;
 pub use blocks::occurrences;
+
+// What a build answers: the numbers of up and down entries, or the first refusal that applies.
+pub enum Built {
+    Accepted { up: u64, down: u64 },
+    Refused { number: u8, place: u16 },
+}

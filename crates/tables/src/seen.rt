@@ -8,7 +8,6 @@ ghost use lib.Dec.{ltb};
 ghost use Rattle.lists.specs.Pick.{pick};
 ghost use Rattle.ranks.specs.Entries.{labels};
 ghost use Rattle.tables.specs.Seen.{places, levels, seen-bytes, filled, advanced, Found, remembered};
-
 use super::labels::LABELS;
 use super::labels::copy_state;
 use super::labels::same_state;

@@ -51,7 +51,11 @@ fn choices(v: Shape, counts: &[u8]) -> u64
 }
 
 // The up entries of all productions.
-pub fn total_up(book: &[u8], places: &[usize; book::limits::MAX_PRODUCTIONS as usize], counts: &[u8]) -> u64
+pub fn total_up(
+    book: &[u8],
+    places: &[usize; book::limits::MAX_PRODUCTIONS as usize],
+    counts: &[u8],
+) -> u64
     requires { ⌜ Opened (now book) (now places) × Small (now book) (now counts) ⌝ }
     ensures { λ r. ⌜ (r ≡ up-entries (grammar (now (book .entry))) (now (counts .entry))) × (r ≤ max-prods * max-members ^ max-kids) ⌝ }
 {
@@ -74,7 +78,12 @@ fn choices_down(v: Shape, counts: &[u8], feasible: &[u8]) -> u64
 }
 
 // The down entries of all productions.
-pub fn total_down(book: &[u8], places: &[usize; book::limits::MAX_PRODUCTIONS as usize], counts: &[u8], feasible: &[u8]) -> u64
+pub fn total_down(
+    book: &[u8],
+    places: &[usize; book::limits::MAX_PRODUCTIONS as usize],
+    counts: &[u8],
+    feasible: &[u8],
+) -> u64
     requires { ⌜ Opened (now book) (now places) × Small (now book) (now counts) × Small (now book) (now feasible) ⌝ }
     ensures { λ r. ⌜ (r ≡ down-entries (grammar (now (book .entry))) (now (counts .entry)) (now (feasible .entry))) × (r ≤ max-prods * max-members ^ (1 + max-kids)) ⌝ }
 {

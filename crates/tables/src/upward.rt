@@ -13,12 +13,11 @@ ghost use Rattle.tables.specs.Memory.{Placed, Fine, Turned};
 ghost use Rattle.tables.specs.Visit.{max-turns, Gathered, OldOr, Opening};
 ghost use Rattle.tables.specs.Sweep.{total, Attended, Swept, Outcome};
 ghost use Rattle.tables.specs.Upward.{UpServed, UpMarks, UpSwept, UpClosed};
-
 use super::gather::Visit;
 use super::sets::MAX_MEMBERS;
 use super::sets::Turn;
-use super::sets::clear32;
 use super::sets::clear8;
+use super::sets::clear32;
 use super::visit::LIST_PLACES;
 use super::visit::looking_at;
 use super::visit::open_turn;
@@ -67,13 +66,21 @@ fn visit_up(book: &[u8], at: usize, sets: &mut [u32], counts: &mut [u8]) -> Turn
         × Fine (kinds (now book)) (Has (now sets) (now counts)) (now sets) (now counts) ⌝ }
     ensures { λ r. ⌜ ((p : ℕ) → p < prods (now (book .entry)) → at ≡ entry (now (book .entry)) p
         → Turned (kinds (now (book .entry)))
-            (OldOr (now (sets .entry)) (now (counts .entry)) (grammar (now (book .entry)) .left p) (StepUp (grammar (now (book .entry))) (Has (now (sets .entry)) (now (counts .entry))) p))
-            (Gathered (grammar (now (book .entry)) .left p) (StepUp (grammar (now (book .entry))) (Has (now (sets .entry)) (now (counts .entry))) p) (now (sets .exit)) (now (counts .exit)))
-            (now (sets .entry)) (now (counts .entry)) (now (sets .exit)) (now (counts .exit)) r) ⌝ }
+        (OldOr (now (sets .entry)) (now (counts .entry)) (grammar (now (book .entry)) .left p) (StepUp (grammar (now (book .entry))) (Has (now (sets .entry)) (now (counts .entry))) p))
+        (Gathered (grammar (now (book .entry)) .left p) (StepUp (grammar (now (book .entry))) (Has (now (sets .entry)) (now (counts .entry))) p) (now (sets .exit)) (now (counts .exit)))
+        (now (sets .entry)) (now (counts .entry)) (now (sets .exit)) (now (counts .exit)) r) ⌝ }
 {
     let mut lists = [0u32; LIST_PLACES];
     let v = prepare_up(book, at, sets, counts, &mut lists);
-    visit(book, at, v, wide(book::arity(book, at)), &lists, sets, counts)
+    visit(
+        book,
+        at,
+        v,
+        wide(book::arity(book, at)),
+        &lists,
+        sets,
+        counts,
+    )
 }
 
 // One more than the number of members that the children's kinds have together.
@@ -92,7 +99,14 @@ fn watched_up(book: &[u8], at: usize, counts: &[u8]) -> u16
 }
 
 // Production p's turn in a sweep. It is passed over where its children's kinds have no more members than at its last visit: all its results are in.
-fn attend_up(book: &[u8], at: usize, p: usize, marks: &mut [u16], sets: &mut [u32], counts: &mut [u8]) -> Turn
+fn attend_up(
+    book: &[u8],
+    at: usize,
+    p: usize,
+    marks: &mut [u16],
+    sets: &mut [u32],
+    counts: &mut [u8],
+) -> Turn
     requires { ⌜ Accepted (now book) × (p < prods (now book)) × (at ≡ entry (now book) p) × (length (now marks) ≡ max-prods)
         × Fine (kinds (now book)) (Plausible (grammar (now book))) (now sets) (now counts) × UpMarks (now book) (now marks) (now sets) (now counts) ⌝ }
     ensures { λ r. ⌜ Attended (kinds (now (book .entry))) (Plausible (grammar (now (book .entry))))
@@ -109,7 +123,13 @@ fn attend_up(book: &[u8], at: usize, p: usize, marks: &mut [u16], sets: &mut [u3
 }
 
 // All productions in order.
-fn sweep_up(book: &[u8], places: &[usize], marks: &mut [u16], sets: &mut [u32], counts: &mut [u8]) -> Turn
+fn sweep_up(
+    book: &[u8],
+    places: &[usize],
+    marks: &mut [u16],
+    sets: &mut [u32],
+    counts: &mut [u8],
+) -> Turn
     requires { ⌜ Accepted (now book) × Index (now book) (now places) × (length (now marks) ≡ max-prods)
         × Fine (kinds (now book)) (Plausible (grammar (now book))) (now sets) (now counts) × UpMarks (now book) (now marks) (now sets) (now counts) ⌝ }
     ensures { λ r. ⌜ Attended (kinds (now (book .entry))) (Plausible (grammar (now (book .entry))))

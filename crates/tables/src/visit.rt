@@ -9,7 +9,6 @@ ghost use Rattle.book.specs.Reading.{kind-in};
 ghost use Rattle.tables.specs.Memory.{Placed};
 ghost use Rattle.tables.specs.State.{based};
 ghost use Rattle.tables.specs.Visit.{max-turns, Yields, Gathers, Opening, Opened, Barren, Prepared};
-
 use super::gather::SLOTS;
 use super::gather::Visit;
 use super::gather::gather;
@@ -85,7 +84,15 @@ fn barren(v: Visit, turns: usize) -> bool
 }
 
 // All that comes of the production's base by choices for the turns is put into the kind's set.
-pub fn visit(book: &[u8], at: usize, v: Visit, turns: usize, lists: &[u32], sets: &mut [u32], counts: &mut [u8]) -> Turn
+pub fn visit(
+    book: &[u8],
+    at: usize,
+    v: Visit,
+    turns: usize,
+    lists: &[u32],
+    sets: &mut [u32],
+    counts: &mut [u8],
+) -> Turn
     requires { ⌜ Prepared (now book) at v turns (now lists) (now sets) (now counts) ⌝ }
     ensures { λ r. ⌜ Gathers (v .kind) (Yields v (now (lists .entry)) turns (based (now (book .entry)) at))
         (now (sets .entry)) (now (counts .entry)) (now (sets .exit)) (now (counts .exit)) r ⌝ }

@@ -160,8 +160,7 @@ module _ (t : ℕ) where
       let h = c .before .before .before .before .before .before .before .before .before .before .before .before .before .before .before .before .loop .inv .0 in
       let w = c .before .before .before .before .before .before .before .before .before .before .before .before .choose .ensures in
       let r = c .before .before .before .before .before .before .before .gather .ensures in
-      let b : c .before .before .before .before .before .before .before .before .before .before .before .before .before .before .before .before .loop .i < size-of (c .before .before .before .before .before .before .before .before .before .before .before .before .before .before .before .before .before .before .before .before .before .before .before .before .before .before .before .args .t1) (c .before .before .before .before .before .before .before .before .before .before .before .before .before .before .before .before .before .before .before .before .before .before .before .before .before .before .before .args .j - 1) = omega arith in
-      (
+      let b : c .before .before .before .before .before .before .before .before .before .before .before .before .before .before .before .before .loop .i < size-of (c .before .before .before .before .before .before .before .before .before .before .before .before .before .before .before .before .before .before .before .before .before .before .before .before .before .before .before .args .t1) (c .before .before .before .before .before .before .before .before .before .before .before .before .before .before .before .before .before .before .before .before .before .before .before .before .before .before .before .args .j - 1) = omega arith in (
         ⊎-elim (λ m. rw (m .2) (loop-still _ _ _ _ q h w b r (m .1 .given .1))) (λ m. rw (m .2) (loop-added _ _ _ _ q h w b r (m .1 .given .1))) (c .match .came),
         loop-state _ _ _ _ q h w,
       )

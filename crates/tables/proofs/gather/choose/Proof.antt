@@ -20,9 +20,11 @@ element-copy-out-tie c = search needs
 tie-requires : tie.Need-tie-requires
 tie-requires c κs =
     let o = c .before .before .before .before .before in
-    let p = o .pre in
-    (ap length (copied-over (o .args .s .now) (o .args .t .now) (p .2 .state .long) (p .3) (c .before .before .copy-state .ensures)) ∙ p .2 .state .long,
-      p .0 .slots (o .args .j) (omega arith), p .0 .widths (o .args .j) (omega arith))
+    let p = o .pre in (
+      ap length (copied-over (o .args .s .now) (o .args .t .now) (p .2 .state .long) (p .3) (c .before .before .copy-state .ensures)) ∙ p .2 .state .long,
+      p .0 .slots (o .args .j) (omega arith),
+      p .0 .widths (o .args .j) (omega arith),
+    )
 
 release-requires : tie.Need-release-requires
 release-requires c κs =

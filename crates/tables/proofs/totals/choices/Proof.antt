@@ -38,10 +38,11 @@ count-requires c κs = count-there (c .before .before .before .before .before .b
 -- src/totals.rt:47:19
 mul-product : tie.Need-mul-product Inv-loop μ-loop
 mul-product c =
-    omega
-    (arith,
-    choose-fits (c .before .before .before .before .loop .inv) (c .before .wide2 .ensures .0) (c .count .ensures .0)
-    (c .before .before .before .before .before .before .before .pre) (c .before .before .before .loop-test .taken))
+    omega (
+      arith,
+      choose-fits (c .before .before .before .before .loop .inv) (c .before .wide2 .ensures .0) (c .count .ensures .0)
+          (c .before .before .before .before .before .before .before .pre) (c .before .before .before .loop-test .taken),
+    )
 
 -- src/totals.rt:48:9
 sub-t : tie.Need-sub-t Inv-loop μ-loop
