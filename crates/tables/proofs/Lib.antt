@@ -33,3 +33,5 @@ pub mod FillChoices
 pub mod FillState
 pub mod Exits
 pub mod Building
+pub mod DownwardVisit
+pub mod DownwardSweep

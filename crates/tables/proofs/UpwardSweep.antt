@@ -31,7 +31,7 @@ use Rattle.tables.proofs.Sweeping.{total-agree, Watches, since-now, sin
 use Rattle.tables.proofs.UpwardVisit.{kind-known}
 
 -- codes of some kinds, in other sets that have them
-members-change : (A B : ℕ → ℕ → Type 0) (ks cs : List ℕ) → ((i x : ℕ) → i < length ks → A (getD ks i 0) x → B (getD ks i 0) x) → Members A ks cs → Members B ks cs
+pub members-change : (A B : ℕ → ℕ → Type 0) (ks cs : List ℕ) → ((i x : ℕ) → i < length ks → A (getD ks i 0) x → B (getD ks i 0) x) → Members A ks cs → Members B ks cs
 members-change A B [] [] h m = tt
 members-change A B [] (c ∷ cs) h m = absurd m
 members-change A B (k ∷ ks) [] h m = absurd m

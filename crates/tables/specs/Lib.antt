@@ -11,3 +11,4 @@ pub mod Upward
 pub mod Fill
 pub mod Answer
 pub mod Making
+pub mod Downward

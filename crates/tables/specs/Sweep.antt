@@ -57,6 +57,11 @@ pub record Swept (n : ℕ) (P : ℕ → ℕ → Type 0) (C : Type 0) (s c s′ c
   pub closed : r ≡ true → C
   pub over : r ≡ false → Over n P
 
+-- the sets hold exactly what has P
+pub record Exact (n : ℕ) (P : ℕ → ℕ → Type 0) (s c : List ℕ) : Type 0 where
+  pub fine : Fine n P s c
+  pub whole : (k x : ℕ) → k < n → P k x → Has s c k x
+
 -- what a pass leaves: the sets hold exactly what has P, or there are 65
 pub record Outcome (n : ℕ) (P : ℕ → ℕ → Type 0) (s c s′ c′ : List ℕ) (r : Bool) : Type 0 where
   pub holds : r ≡ true → Holds n P s c s′ c′

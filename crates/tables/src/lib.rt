@@ -20,3 +20,4 @@ pub enum Built {
     Accepted { up: u64, down: u64 },
     Refused { number: u8, place: u16 },
 }
+mod downward;

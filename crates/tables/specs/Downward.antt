@@ -1,0 +1,44 @@
+-- The downward pass over an accepted book with its plausible sets s, counted by c, as its sweeps go.
+use mathlib.Core.List.{List}
+use Prim.Native.Nat.{ℕ, suc, _-_, _<_}
+use lib.Dec.{eqb, ltb}
+use lib.ListN.{length, getD}
+use Rattle.lists.specs.Pick.{pick}
+use Rattle.chains.specs.Steps.{StepDown}
+use Rattle.book.specs.Format.{kinds, prods, grammar}
+use Rattle.tables.specs.Sets.{Has}
+use Rattle.tables.specs.Sweep.{Served, Marked}
+
+-- ── a visit for the child in slot t ──
+-- the slot of turn j: t first, so that it is tied last, then the others in order
+abbrev pub slot-down : ℕ → ℕ → ℕ
+slot-down t j = pick (eqb j 0) t (pick (ltb t j) j (j - 1))
+
+-- the left kind's codes are feasible ones, the children's plausible ones
+abbrev pub given : List ℕ → List ℕ → ℕ → List ℕ
+given feasible plausible slot = pick (eqb slot 0) feasible plausible
+
+-- ── the sweeps ──
+-- production p has a step for each child, and watches its left kind
+abbrev pub down-step : (b s c : List ℕ) → ℕ → ℕ → (ℕ → ℕ → Type 0) → ℕ → Type 0
+down-step b s c p j A = StepDown (grammar b) A (Has s c) p (suc j)
+
+abbrev pub down-into : List ℕ → ℕ → ℕ → ℕ
+down-into b p j = getD (grammar b .kids p) j 0
+
+abbrev pub down-watch : List ℕ → ℕ → ℕ → ℕ
+down-watch b p i = grammar b .left p
+
+abbrev pub DownServed : (b s c : List ℕ) → ℕ → (f₀ d₀ f d : List ℕ) → Type 0
+DownServed b s c p = Served (kinds b) (length (grammar b .kids p)) (down-step b s c p) (down-into b p)
+
+abbrev pub DownMarks : (b s c marks f d : List ℕ) → Type 0
+DownMarks b s c marks f d = (p : ℕ) → p < prods b
+    → Marked (kinds b) (length (grammar b .kids p)) (down-step b s c p) (down-into b p) (down-watch b p) 1 (getD marks p 0) f d
+
+abbrev pub DownSwept : (b s c f₀ d₀ f d : List ℕ) → Type 0
+DownSwept b s c f₀ d₀ f d = (p : ℕ) → p < prods b → DownServed b s c p f₀ d₀ f d
+
+-- every production's results are in, for each child
+abbrev pub DownClosed : (b s c f d : List ℕ) → Type 0
+DownClosed b s c f d = (p j x : ℕ) → p < prods b → j < length (grammar b .kids p) → down-step b s c p j (Has f d) x → Has f d (down-into b p j) x
