@@ -12,8 +12,10 @@ use Rattle.book.specs.Reading.{told}
 use Rattle.book.proofs.Accepted.{told-prods, place-read}
 use Rattle.ranks.specs.Entries.{choices, up-start, down-start}
 use Rattle.ranks.proofs.Numbers.{choices-few, up-start-few, down-start-few}
+use Rattle.tables.specs.State.{Readable, based}
 use Rattle.tables.specs.Fill.{kind-of, kinds-from, ShapeAt, Opened, Small, Countable}
 use Rattle.tables.specs.declared.shape.Shape.{Shape}
+use Rattle.tables.proofs.StateBase.{readable}
 use Rattle.tables.proofs.Shapes.{kinds-step, kinds-none, few-choices, kind-is, kids-are, countable}
 
 -- ── a production's choices ──
@@ -74,9 +76,19 @@ sum-begun start o z e e′ = record { all = e ∙ e′ ∙ told-prods (o .book);
 pub sum-done : {b : List ℕ} {start : ℕ → ℕ} {n x p : ℕ} → Summing b start n x p → n ≤ p → x ≡ start (prods b)
 sum-done {b} {start} {p = p} h l = h .sum ∙ ap start (let e : p ≡ prods b = omega (arith, h .all, h .within) in e)
 
+module _ {b places : List ℕ} (o : Opened b places) (p : ℕ) (l : p < prods b) where
+  pub opened-place : getD places p 0 ≡ entry b p
+  opened-place = place-read (o .book) (o .index) p l
+
+  pub opened-readable : Readable b (getD places p 0)
+  opened-readable = rw opened-place (readable (o .book) p l)
+
+  pub opened-base : {x : List ℕ} → x ≡ based b (getD places p 0) → x ≡ based b (entry b p)
+  opened-base e = e ∙ ap (based b) opened-place
+
 module _ {b places : List ℕ} (o : Opened b places) (p : ℕ) (l : p < prods b) {v : Shape} (h : ShapeAt b (getD places p 0) v) where
   pub opened-shape : ShapeAt b (entry b p) v
-  opened-shape = rw (← place-read (o .book) (o .index) p l) h
+  opened-shape = rw (← opened-place o p l) h
 
   pub opened-countable : {c : List ℕ} → Small b c → Countable v c
   opened-countable s = countable (o .book) p l opened-shape s

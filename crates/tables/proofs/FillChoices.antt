@@ -9,15 +9,16 @@ use lib.ListN.{length, getD}
 use Rattle.chains.specs.Limits.{max-settings, max-kids, max-members}
 use Rattle.chains.specs.Labels.{joins}
 use Rattle.chains.specs.State.{code-pairs}
-use Rattle.ranks.specs.Entries.{choices, choice}
+use Rattle.ranks.specs.Entries.{choices, choice, entry-bytes}
 use Rattle.ranks.proofs.Digits.{digit-once}
 use Rattle.ranks.proofs.Numbers.{choice-below}
 use Rattle.tables.specs.Sets.{member}
 use Rattle.tables.specs.Entries.{Ranks, picked}
 use Rattle.tables.specs.State.{Present, Whole, spot}
-use Rattle.tables.specs.Fill.{kind-of, width-of, kinds-from, Sized, Ready, tied-once, tied, InPlace, Entry, entry-size, Rankable, Laid, chosen, Choices, Asked}
+use Rattle.tables.specs.Fill.{kind-of, width-of, kinds-from, Sized, Ready, tied-once, tied, InPlace, Entry, entry-size, Rankable, Laid, chosen, Choices, Asked, AllChoices, AllAsked}
 use Rattle.tables.specs.declared.shape.Shape.{Shape}
 use Rattle.tables.specs.declared.fill.Table.{Table}
+use Rattle.tables.specs.declared.fill.Table.the-variants.{Down}
 use Rattle.tables.proofs.State.{tie-means}
 use Rattle.tables.proofs.Shapes.{kinds-step, kinds-none}
 use Rattle.tables.proofs.FillRuns.{Behind, laid-map, laid-count, Blocks, blocks-begun, blocks-room, blocks-next, blocks-done}
@@ -139,3 +140,45 @@ module _ {table : Table} {v : Shape} {t : ℕ} {s c f d x out : List ℕ} {a : �
 
       pub turn-done : n ≤ r → Laid (entry-size table) (choices c (kinds-from v t)) (Choices table v t s c f d (kinds-from v t) x) out a out′ z
       turn-done m = laid-count (blocks-done g m) (sym all-choices)
+
+-- ── the members of the left kind, one after another, with the children's choices each ──
+-- the entries of member u stand behind those of the members before it
+member-behind : (v : Shape) (s c f d ks x : List ℕ) (u : ℕ)
+    → Behind (u * choices c ks) (choices c ks) (AllChoices v s c f d ks x) (Choices Down v 1 s c f d ks (tied-once v 0 (member f (kind-of v 0) u) x))
+member-behind v s c f d ks x u i l b q u′ rs h r e =
+    let (first, rest) = digit-once u′ (choice c ks rs) u i (choice-below c ks rs r) l e in
+    subst (λ (u : ℕ). Entry Down f d v (chosen v 1 s ks rs (tied-once v 0 (member f (kind-of v 0) u) x)) b) (sym first) (q rs r rest)
+
+module _ {v : Shape} {s c f d x out : List ℕ} {a : ℕ} (h : AllAsked v s c f d x out a) {n : ℕ} (e : n ≡ getD d (kind-of v 0) 0) where
+  abbrev Feeding : List ℕ → ℕ → ℕ → Type 0
+  Feeding out′ z u = Blocks entry-bytes (choices c (kinds-from v 1)) n (AllChoices v s c f d (kinds-from v 1) x) out a out′ z u
+
+  pub feed-begun : Feeding out a 0
+  feed-begun = blocks-begun entry-bytes (choices c (kinds-from v 1)) n (AllChoices v s c f d (kinds-from v 1) x) out a (rw e (h .room))
+
+  pub feed-placed : {u : ℕ} → u < n → kind-of v 0 * max-members + u < length f
+  feed-placed k = let p = h .standing .placed 0 (omega arith) in omega (arith, p .there, p .few)
+
+  module _ {out′ : List ℕ} {z u : ℕ} (g : Feeding out′ z u) where
+    module _ (m : u < n) {y : List ℕ} (q : y ≡ tied-once v 0 (member f (kind-of v 0) u) x) where
+      -- what the children ask for
+      pub feed-asks : Asked Down v 1 s c f d y out′ z
+      feed-asks = rw q (record {
+        standing = record {
+          sized = h .standing .sized;
+          placed = h .standing .placed;
+          ready = tie-ready (h .standing .sized) (h .standing .ready) 0 (member f (kind-of v 0) u) (omega arith);
+        };
+        choose = h .choose;
+        within = omega arith;
+        rankable = λ rs r. h .rankable u rs (omega arith) r;
+        room = blocks-room g m;
+      })
+
+      -- and what they bring
+      pub feed-next : {out″ : List ℕ} {z′ : ℕ} → Laid entry-bytes (choices c (kinds-from v 1)) (Choices Down v 1 s c f d (kinds-from v 1) y) out′ z out″ z′
+          → Feeding out″ z′ (u + 1)
+      feed-next k = blocks-next g m (rw q at k) (member-behind v s c f d (kinds-from v 1) x u)
+
+    pub feed-done : n ≤ u → Laid entry-bytes (getD d (kind-of v 0) 0 * choices c (kinds-from v 1)) (AllChoices v s c f d (kinds-from v 1) x) out a out′ z
+    feed-done m = laid-count (blocks-done g m) (ap (λ (n : ℕ). n * choices c (kinds-from v 1)) e)

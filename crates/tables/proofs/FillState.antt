@@ -7,23 +7,24 @@ use native.Mathlib.Nat.{add-zero}
 use native.Mathlib.Omega.{arith}
 use lib.ListN.{length, getD}
 use Rattle.chains.specs.Limits.{max-settings, max-kids}
-use Rattle.chains.specs.Grammar.{Grammar, slots, width}
-use Rattle.chains.specs.Grouping.{Alike, Members}
+use Rattle.chains.specs.Grammar.{Occ, Grammar, slots, width}
+use Rattle.chains.specs.Grouping.{Says, Alike, Members}
+use Rattle.chains.specs.State.{code-on}
 use Rattle.chains.specs.Feasible.{Chosen}
 use Rattle.book.specs.Format.{kinds, prods, entry, grammar}
 use Rattle.book.proofs.Accepted.{Accepted}
 use Rattle.tables.specs.Sets.{member}
-use Rattle.tables.specs.Entries.{Ranks, picked}
+use Rattle.tables.specs.Entries.{Ranks, picked, Ranked}
 use Rattle.tables.specs.Memory.{Fine}
 use Rattle.tables.specs.State.{based}
-use Rattle.tables.specs.Fill.{width-of, ShapeAt, Sized, AllPlaced, Ready, tied-once, tied}
+use Rattle.tables.specs.Fill.{width-of, ShapeAt, Sized, AllPlaced, Ready, tied-once, tied, RankOn}
 use Rattle.tables.specs.declared.shape.Shape.{Shape}
 use Rattle.tables.proofs.Members.{ranked-has}
 use Rattle.tables.proofs.Memory.{fine-placed}
 use Rattle.tables.proofs.StateBase.{few-settings, base-state}
 use Rattle.tables.proofs.StateWalk.{base-whole}
 use Rattle.tables.proofs.StateEntry.{Showing, show-base, show-skip, show-tie, Below, below-at, chosen-at}
-use Rattle.tables.proofs.Shapes.{arity-is, arity-few, kind-below, width-is-of, width-few}
+use Rattle.tables.proofs.Shapes.{arity-is, arity-few, kind-is, kind-below, width-is-of, width-few}
 
 -- ── members by ranks ──
 pub picked-long : (c s ks rs : List ℕ) → Ranks c ks rs → length (picked s ks rs) ≡ length ks
@@ -67,6 +68,18 @@ module _ {b : List ℕ} (a : Accepted b) (p : ℕ) (l : p < prods b) {v : Shape}
     state = base-state a p l;
     whole = λ t k. rw (width-is-of a p l h t k) (base-whole a p l t (omega (arith, arity-is a p l h)));
   }
+
+  -- the rank of what a state shows on slot t is that of what R relates there
+  pub ranked-on : {s c x : List ℕ} {R : Occ → Occ → Type 0} (t : ℕ) → t ≤ v .arity → {r : ℕ} → Says (width G p t) (code-on t (width G p t) x) (λ i k. R (t, i) (t, k))
+      → RankOn s c v t x r → Ranked s c (width G p t) (getD (slots G p) t 0) t R r
+  ranked-on {s} {c} {x} {R} t k {r} says q =
+      let e = kind-is a p l h t k in
+      let m : member s (getD (slots G p) t 0) r ≡ code-on t (width G p t) x
+      = ap (λ (u : ℕ). member s u r) (sym e) ∙ q .is ∙ ap (λ (n : ℕ). code-on t n x) (width-is-of a p l h t k) in
+      record {
+        below = subst (λ (u : ℕ). r < getD c u 0) e (q .below);
+        says = subst (λ (y : ℕ). Says (width G p t) y (λ i k. R (t, i) (t, k))) (sym m) says;
+      }
 
   -- ── slots tied one after another ──
   module _ {τ : ℕ → ℕ → ℕ → Type 0} where

@@ -35,3 +35,5 @@ pub mod Exits
 pub mod Building
 pub mod DownwardVisit
 pub mod DownwardSweep
+pub mod FillUp
+pub mod FillDown

@@ -13,9 +13,9 @@ use Rattle.chains.specs.State.{code-pairs, code-on}
 use Rattle.book.specs.Format.{kinds, arity-at}
 use Rattle.book.specs.Reading.{kind-in, Index}
 use Rattle.book.proofs.Accepted.{Accepted}
-use Rattle.ranks.specs.Entries.{choices, choice, labels, entry-bytes, none}
+use Rattle.ranks.specs.Entries.{choices, choice, up-entry, down-entry, labels, entry-bytes, none}
 use Rattle.tables.specs.Sets.{Has, member}
-use Rattle.tables.specs.Entries.{Ranks, picked, Upward, Ranked}
+use Rattle.tables.specs.Entries.{Ranks, picked, Upward, Downward, Ranked, DownEntry}
 use Rattle.tables.specs.Memory.{Placed, Fine}
 use Rattle.tables.specs.State.{State, Whole, tidied, width-in}
 use Rattle.tables.specs.declared.shape.Shape.{Shape}
@@ -176,3 +176,34 @@ pub record Exact (n : ℕ) (P : ℕ → ℕ → Type 0) (s c : List ℕ) : Type 
 -- production p's entries of the up table, by their number among them
 abbrev pub UpRun : Grammar → (s c : List ℕ) → ℕ → ℕ → List ℕ → Type 0
 UpRun G s c p = ByRanks c (G .kids p) (λ rs e. Ranked s c (width G p 0) (G .left p) 0 (Upward G p (picked s (G .kids p) rs)) (getD e 0 none))
+
+-- and all productions' entries, by their number in the table
+abbrev pub UpAll : Grammar → (s c : List ℕ) → ℕ → List ℕ → Type 0
+UpAll G s c i e = (p : ℕ) (rs : List ℕ) → p < G .prods → Ranks c (G .kids p) rs → up-entry G c p rs ≡ i
+    → Ranked s c (width G p 0) (G .left p) 0 (Upward G p (picked s (G .kids p) rs)) (getD e 0 none)
+
+-- the i-th entry has what P says for the first of n ranks and those of ks whose number i is
+abbrev pub ByAllRanks : (n : ℕ) (c ks : List ℕ) → (ℕ → List ℕ → List ℕ → Type 0) → ℕ → List ℕ → Type 0
+ByAllRanks n c ks P i e = (u : ℕ) (rs : List ℕ) → u < n → Ranks c ks rs → u * choices c ks + choice c ks rs ≡ i → P u rs e
+
+-- the entries of all choices for the children, for each member of the left kind in f
+abbrev pub AllChoices : Shape → (s c f d ks x : List ℕ) → ℕ → List ℕ → Type 0
+AllChoices v s c f d ks x =
+    ByAllRanks (getD d (kind-of v 0) 0) c ks (λ u rs e. Entry Down f d v (chosen v 1 s ks rs (tied-once v 0 (member f (kind-of v 0) u) x)) e)
+
+-- what is asked before they are written
+pub record AllAsked (v : Shape) (s c f d x out : List ℕ) (a : ℕ) : Type 0 where
+  pub standing : InPlace f d v x
+  pub choose : AllPlaced v s c
+  pub rankable : (u : ℕ) (rs : List ℕ) → u < getD d (kind-of v 0) 0 → Ranks c (kinds-from v 1) rs
+      → Rankable Down f d v (chosen v 1 s (kinds-from v 1) rs (tied-once v 0 (member f (kind-of v 0) u) x))
+  pub room : a + getD d (kind-of v 0) 0 * choices c (kinds-from v 1) * entry-size Down ≤ length out
+
+-- production p's entries of the down table, by their number among them
+abbrev pub DownRun : Grammar → (s c f d : List ℕ) → ℕ → ℕ → List ℕ → Type 0
+DownRun G s c f d p = ByAllRanks (getD d (G .left p) 0) c (G .kids p) (λ u rs e. DownEntry G p f d (Downward G p (member f (G .left p) u) (picked s (G .kids p) rs)) e)
+
+-- and all productions' entries, by their number in the table
+abbrev pub DownAll : Grammar → (s c f d : List ℕ) → ℕ → List ℕ → Type 0
+DownAll G s c f d i e = (p u : ℕ) (rs : List ℕ) → p < G .prods → u < getD d (G .left p) 0 → Ranks c (G .kids p) rs → down-entry G c d p u rs ≡ i
+    → DownEntry G p f d (Downward G p (member f (G .left p) u) (picked s (G .kids p) rs)) e

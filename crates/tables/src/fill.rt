@@ -5,10 +5,14 @@ ghost use Prim.Native.Nat.{suc, _+_, _*_, _<_, _≤_};
 ghost use lib.ListN.{length, getD};
 ghost use Rattle.lists.specs.Part.{place};
 ghost use Rattle.chains.specs.Limits.{max-kids, max-members};
+ghost use Rattle.chains.specs.Plausible.{Plausible};
+ghost use Rattle.book.specs.Format.{kinds, prods, grammar};
 ghost use Rattle.ranks.specs.Entries.{choices, labels, entry-bytes};
 ghost use Rattle.tables.specs.Sets.{member};
+ghost use Rattle.tables.specs.Entries.{UpTable};
+ghost use Rattle.tables.specs.Promise.{up-entries, Written};
 ghost use Rattle.tables.specs.State.{State, tidied};
-ghost use Rattle.tables.specs.Fill.{kind-of, kinds-from, Sized, Ready, tied-once, InPlace, Listed, RankOn, ChildRank, ChildRanks, Rankable, Entry, entry-size, Laid, Choices, Asked};
+ghost use Rattle.tables.specs.Fill.{kind-of, kinds-from, Sized, Ready, tied-once, InPlace, Listed, RankOn, ChildRank, ChildRanks, Rankable, Entry, entry-size, Laid, Choices, Asked, AllAsked, AllChoices, Opened, Exact, UpRun};
 use super::labels::LABELS;
 use super::labels::NONE;
 use super::labels::base;
@@ -28,6 +32,8 @@ pub enum Table {
     Down,
 }
 
+const PRODUCTIONS: usize = book::limits::MAX_PRODUCTIONS as usize;
+
 const CHILDREN: usize = book::limits::MAX_CHILDREN as usize;
 
 // Bytes of a down entry: a label for each occurrence, then a rank for each child.
@@ -35,6 +41,12 @@ const ENTRY: usize = LABELS + CHILDREN;
 
 fn wide(x: u8) -> usize
     ensures { λ r. ⌜ (r ≡ x) × (r < 256) ⌝ }
+{
+    x as usize
+}
+
+fn span(x: u16) -> usize
+    ensures { λ r. ⌜ (r ≡ x) × (r < 65536) ⌝ }
 {
     x as usize
 }
@@ -189,4 +201,54 @@ fn lay(
         r += 1;
     }
     to
+}
+
+// The entries of all choices for the children, for each member of the left kind, in order; the answer is the place behind them.
+fn lay_down(v: Shape, s: &[u8; LABELS], sets: &[u32], counts: &[u8], feasible: &[u32], sizes: &[u8], out: &mut [u8], at: usize) -> usize
+    requires { ⌜ AllAsked v (now sets) (now counts) (now feasible) (now sizes) (now s) (now out) at ⌝ }
+    ensures { λ r. ⌜ Laid (entry-size Table.Down) (getD (now (sizes .entry)) (kind-of v 0) 0 * choices (now (counts .entry)) (kinds-from v 1))
+        (AllChoices v (now (sets .entry)) (now (counts .entry)) (now (feasible .entry)) (now (sizes .entry)) (kinds-from v 1) (now (s .entry))) (now (out .entry)) at (now (out .exit)) r ⌝ }
+{
+    let n = members_on(v, 0, sizes);
+    let mut t = [NONE; LABELS];
+    let mut to = at;
+    let mut u = 0;
+    while u < n {
+        tie_member(v, 0, u, feasible, s, &mut t);
+        to = lay(Table::Down, v, 1, &t, sets, counts, feasible, sizes, out, to);
+        u += 1;
+    }
+    to
+}
+
+// ---- the up table
+
+// The entries of a production, from `at` on.
+fn up_run(book: &[u8], places: &[usize; PRODUCTIONS], p: usize, sets: &[u32], counts: &[u8], up: &mut [u8], at: usize) -> usize
+    requires { ⌜ Opened (now book) (now places) × (p < prods (now book)) × Exact (kinds (now book)) (Plausible (grammar (now book))) (now sets) (now counts)
+        × (at + choices (now counts) (grammar (now book) .kids p) ≤ length (now up)) ⌝ }
+    ensures { λ r. ⌜ Laid (entry-size Table.Up) (choices (now (counts .entry)) (grammar (now (book .entry)) .kids p))
+        (UpRun (grammar (now (book .entry))) (now (sets .entry)) (now (counts .entry)) p) (now (up .entry)) at (now (up .exit)) r ⌝ }
+{
+    let entry = places[p];
+    let v = shape_of(book, entry);
+    let mut s = [NONE; LABELS];
+    base(book, entry, &mut s);
+    lay(Table::Up, v, 1, &s, sets, counts, sets, counts, up, at)
+}
+
+// Every up entry, one production behind another. What stands behind them stays as it came.
+pub fn fill_up(book: &[u8], places: &[usize; PRODUCTIONS], sets: &[u32], counts: &[u8], up: &mut [u8])
+    requires { ⌜ Opened (now book) (now places) × Exact (kinds (now book)) (Plausible (grammar (now book))) (now sets) (now counts)
+        × (up-entries (grammar (now book)) (now counts) ≤ length (now up)) ⌝ }
+    ensures { λ _. ⌜ UpTable (grammar (now (book .entry))) (now (sets .entry)) (now (counts .entry)) (now (up .exit))
+        × Written (up-entries (grammar (now (book .entry))) (now (counts .entry))) (now (up .entry)) (now (up .exit)) ⌝ }
+{
+    let n = span(book::productions(book));
+    let mut at = 0;
+    let mut p = 0;
+    while p < n {
+        at = up_run(book, places, p, sets, counts, up, at);
+        p += 1;
+    }
 }
