@@ -1,6 +1,6 @@
 -- A visit of the downward pass for one child: the order of its turns, what it needs, and what it puts in.
-use mathlib.Core.Path.{_≡_, refl, sym, ap, _∙_, subst}
-use mathlib.Core.Logic.{_⊎_, inl, inr, _↔_}
+use mathlib.Core.Path.{_≡_, refl, sym, _∙_, subst}
+use mathlib.Core.Logic.{inl, inr, _↔_}
 use mathlib.Core.Bool.{Bool, true, false}
 use mathlib.Core.List.{List}
 use Prim.Native.Nat.{ℕ, zero, suc, _-_, _≤_, _<_}
@@ -16,12 +16,11 @@ use Rattle.chains.specs.Gather.{Towards, CodesOf}
 use Rattle.chains.specs.Steps.{StepDown}
 use Rattle.chains.proofs.Gathered.{gathered-down}
 use Rattle.book.specs.Format.{arity-at, entry, kinds, prods, grammar}
-use Rattle.book.specs.Reading.{kind-in}
 use Rattle.book.proofs.Accepted.{Accepted, arity-read}
 use Rattle.tables.specs.Sets.{Has}
 use Rattle.tables.specs.Memory.{Placed, Fine, Turned}
 use Rattle.tables.specs.State.{based}
-use Rattle.tables.specs.Visit.{max-turns, Yields, Gathered, OldOr, Gathers, Opened, Opening, Prepared}
+use Rattle.tables.specs.Visit.{max-turns, Yields, Gathered, OldOr, Gathers, Opening, Prepared}
 use Rattle.tables.specs.Downward.{slot-down, given}
 use Rattle.tables.specs.declared.sets.Turn.{Turn}
 use Rattle.tables.specs.declared.gather.Visit.{Visit}
@@ -122,7 +121,7 @@ module _ {b : List ℕ} (a : Accepted b) (p : ℕ) (l : p < prods b) where
     yields-down : (x : ℕ) → Yields v u (suc (arity-at b (entry b p))) (based b (entry b p)) x ↔ StepDown (grammar b) (Has f d) (Has s c) p (suc j) x
     yields-down x =
         let y = plan-result a p l o target few inside apart placed (CodesOf (grammar b) (Has f d) (Has s c) p) (λ i x k. codes-given f d s c (slot-down (suc j) i) x)
-            (Towards (suc j) (length (slots (grammar b) p))) opened x in
+        (Towards (suc j) (length (slots (grammar b) p))) opened x in
         let e = gathered-down (grammar b) (Has f d) (Has s c) p (suc j) target x in
         (λ m. e .0 (y .0 m), λ m. y .1 (e .1 m))
 

@@ -11,7 +11,7 @@ use Rattle.ranks.specs.Entries.{labels}
 use Rattle.tables.specs.Sets.{Has, Over}
 use Rattle.tables.specs.Memory.{Put, Fine, Kept, Turned}
 use Rattle.tables.specs.Seen.{Found, remembered, Stored}
-use Rattle.tables.specs.Visit.{size-of, code-of, chosen, Yields, Gathered, OldOr, Gathers, InOrder, Done, Request, Reply}
+use Rattle.tables.specs.Visit.{size-of, code-of, chosen, Yields, Gathered, OldOr, Gathers, Done, Request, Reply}
 use Rattle.tables.specs.declared.sets.Turn.{Turn}
 use Rattle.tables.specs.declared.sets.Turn.the-variants.{Still, Added, Full}
 use Rattle.tables.specs.declared.gather.Visit.{Visit}

@@ -37,3 +37,4 @@ pub mod DownwardVisit
 pub mod DownwardSweep
 pub mod FillUp
 pub mod FillDown
+pub mod Seeding

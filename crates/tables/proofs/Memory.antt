@@ -62,7 +62,7 @@ there-and-back u v f g k l = equal-counts u f g k l (let a = u .grows k in let b
 
 -- ── one member more ──
 -- a fact of every kind, from one of this kind and one of the others
-every : (k : ℕ) (Q : ℕ → Type 0) → Q k → ((j : ℕ) → (j ≡ k → ⊥) → Q j) → (j : ℕ) → Q j
+pub every : (k : ℕ) (Q : ℕ → Type 0) → Q k → ((j : ℕ) → (j ≡ k → ⊥) → Q j) → (j : ℕ) → Q j
 every k Q this others j = go (ℕ-discrete j k)
   where
     go : Dec (j ≡ k) → Q j

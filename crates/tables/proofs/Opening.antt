@@ -1,5 +1,5 @@
 -- A visit made ready: each turn that is opened leaves those before it as they were.
-use mathlib.Core.Path.{_≡_, refl, sym, ap, _∙_, subst}
+use mathlib.Core.Path.{_≡_, ap, _∙_}
 use mathlib.Core.List.{List}
 use Prim.Native.Nat.{ℕ, _+_, _*_, _≤_, _<_}
 use native.Mathlib.Omega.{arith}
@@ -9,10 +9,10 @@ use Rattle.lists.proofs.Order.{by-order}
 use Rattle.lists.proofs.Parts.{getD-part, place-long, getD-before, getD-this}
 use Rattle.chains.specs.Limits.{max-members}
 use Rattle.book.specs.Reading.{kind-in}
-use Rattle.tables.specs.Sets.{members, member}
+use Rattle.tables.specs.Sets.{members}
 use Rattle.tables.specs.Memory.{Placed}
 use Rattle.tables.specs.State.{width-in}
-use Rattle.tables.specs.Visit.{max-turns, slot-of, width-of, size-of, code-of, Opened, Taken, Sized, Opening}
+use Rattle.tables.specs.Visit.{max-turns, size-of, Opened, Taken, Sized, Opening}
 use Rattle.tables.specs.declared.gather.Visit.{Visit}
 use Rattle.tables.proofs.Members.{members-long}
 

@@ -1,8 +1,8 @@
 -- A visit made ready off an accepted book is one of its production: its turns' slots are tied with the codes of their kinds.
-use mathlib.Core.Path.{_≡_, refl, sym, ap, _∙_, subst}
+use mathlib.Core.Path.{_≡_, sym, ap, _∙_, subst}
 use mathlib.Core.Logic.{_↔_}
 use mathlib.Core.List.{List}
-use Prim.Native.Nat.{ℕ, suc, _≤_, _<_}
+use Prim.Native.Nat.{ℕ, _≤_, _<_}
 use native.Mathlib.Omega.{arith}
 use lib.ListN.{length, getD}
 use Rattle.chains.specs.Limits.{max-kids}
@@ -10,7 +10,7 @@ use Rattle.chains.specs.Grammar.{Grammar, slots, width, Tied}
 use Rattle.chains.specs.Gather.{Result}
 use Rattle.chains.specs.State.{Shown}
 use Rattle.chains.proofs.Gather.{result-open}
-use Rattle.book.specs.Format.{arity-at, entry, prods, grammar}
+use Rattle.book.specs.Format.{entry, prods, grammar}
 use Rattle.book.specs.Reading.{kind-in}
 use Rattle.book.proofs.Accepted.{Accepted, arity-read, kind-in-read}
 use Rattle.tables.specs.Sets.{Has, member}

@@ -1,19 +1,21 @@
 -- The laws of sweeps: what was served stays so; where the watched kinds have no member more, it is served for the sets as they stand; and marks
 -- hold on.
 use mathlib.Core.Path.{_≡_, refl, sym, ap, ap₂, _∙_, subst}
-use mathlib.Core.Logic.{_⊎_, inl, inr}
+use mathlib.Core.Logic.{inl, inr}
 use mathlib.Core.Bool.{Bool, true, false, true≢false}
 use mathlib.Core.List.{List, List·Memᴰ}
 use Prim.Native.Nat.{ℕ, zero, suc, _+_, _≤_, _<_}
 use native.Mathlib.Numerals.{add-one}
 use native.Mathlib.Omega.{arith}
-use lib.ListN.{length, getD}
+use native.Mathlib.Decide.{ℕ-discrete}
+use lib.ListN.{length, getD, set}
+use lib.Seq.{getD-set-same, getD-set-other}
 use Rattle.lists.proofs.Order.{by-order}
 use Rattle.chains.specs.Limits.{max-prods}
 use Rattle.tables.specs.Sets.{Has}
 use Rattle.tables.specs.Memory.{Fine, Kept, Turned, room}
 use Rattle.tables.specs.Visit.{Gathered}
-use Rattle.tables.specs.Sweep.{Since, Served, total, Visited, Marked, Attended, Swept}
+use Rattle.tables.specs.Sweep.{Since, Served, total, Marked, Attended, Swept}
 use Rattle.tables.specs.declared.sets.Turn.{Turn}
 use Rattle.tables.specs.declared.sets.Turn.the-variants.{Still, Added, Full}
 use Rattle.tables.proofs.Memory.{kept-refl, kept-trans, equal-counts, turned-map, Lasts, Going, set-out, on-still, on-added, on-full, end-added, end-still}
@@ -126,6 +128,32 @@ marked-served f known local e (inl z) j l = absurd (omega arith)
 marked-served {step = step} {watch = watch} {w} {s = s} {c} f known local e (inr v) j l =
     let q : total (v .counts) watch w ≡ total c watch w = omega (arith, v .mark-is) in
     since-now (step j) f (kept-refl _ s c) (since-closed f watch w known (local j l) q (v .served j l))
+
+-- ---- a production's turn
+-- production q has m q steps and watches w q kinds
+module _ (n prods : ℕ) (m w : ℕ → ℕ) (step : ℕ → ℕ → (ℕ → ℕ → Type 0) → ℕ → Type 0) (into watch : ℕ → ℕ → ℕ) where
+  abbrev pub AllMarked : (marks s c : List ℕ) → Type 0
+  AllMarked marks s c = (q : ℕ) → q < prods → Marked n (m q) (step q) (into q) (watch q) (w q) (getD marks q 0) s c
+
+  module _ {P : ℕ → ℕ → Type 0} {s c : List ℕ} {p mark : ℕ} (marks : List ℕ) (l : p < prods) (f : Fine n P s c) (old : AllMarked marks s c)
+      (e : mark ≡ suc (total c (watch p) (w p))) where
+    -- THEOREM: it may be passed over where its mark is what it would be now
+    pub spared : ((i : ℕ) → i < w p → watch p i < n) → ((j : ℕ) → j < m p → Watches (step p j) (watch p) (w p)) → getD marks p 0 ≡ mark
+        → Attended n P (Served n (m p) (step p) (into p) s c s c) (AllMarked marks) s c s c Still
+    spared known local q = record {
+      turned = record { fine = f; kept = kept-refl n s c; case = (refl, refl, marked-served f known local (q ∙ e) (old p l)) };
+      marked = λ z. old;
+    }
+
+    -- THEOREM: once it is served it may be marked
+    pub attended : ((q j : ℕ) → q < prods → j < m q → into q j < n) → prods ≤ length marks → {s′ c′ marks′ : List ℕ} {r : Turn} → marks′ ≡ set marks p mark
+        → Turned n P (Served n (m p) (step p) (into p) s c s′ c′) s c s′ c′ r → Attended n P (Served n (m p) (step p) (into p) s c s′ c′) (AllMarked marks′) s c s′ c′ r
+    attended targets long {s′} {c′} {marks′} {r} z u = record { turned = u; marked = λ n q h. go q h (turned-done r n u) (ℕ-discrete q p) }
+      where
+        go : (q : ℕ) → q < prods → Served n (m p) (step p) (into p) s c s′ c′ → Dec (q ≡ p)
+            → Marked n (m q) (step q) (into q) (watch q) (w q) (getD marks′ q 0) s′ c′
+        go q h d (yes y) = rw (y, z, getD-set-same marks p mark 0 (omega arith)) (mark-visit (λ j k. targets p j l k) (u .kept) e d)
+        go q h d (no y) = rw (z, getD-set-other marks p q mark 0 y) (marked-later (λ j k. targets q j h k) (u .kept) (old q h))
 
 -- ---- a sweep: a turn for each production
 pub record OnSweep (n : ℕ) (P : ℕ → ℕ → Type 0) (D : List ℕ → List ℕ → ℕ → Type 0) (Marks : List ℕ → List ℕ → List ℕ → Type 0) (s₀ c₀ marks s c : List ℕ) (added : Bool) (p : ℕ) : Type 0 where

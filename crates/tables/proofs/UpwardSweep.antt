@@ -1,13 +1,11 @@
 -- A production's turn in a sweep of the upward pass.
-use mathlib.Core.Path.{_≡_, refl, sym, ap, ap₂, _∙_, subst}
-use mathlib.Core.Logic.{_⊎_, inl, inr, ⊎-elim}
+use mathlib.Core.Path.{_≡_, sym, ap, _∙_}
+use mathlib.Core.Logic.{inl, inr}
 use mathlib.Core.Bool.{Bool}
 use mathlib.Core.List.{List, [], _∷_}
 use Prim.Native.Nat.{ℕ, suc, _*_, _≤_, _<_}
 use native.Mathlib.Omega.{arith}
-use native.Mathlib.Decide.{ℕ-discrete}
 use lib.ListN.{length, getD, set, replicate, getD-replicate}
-use lib.Seq.{getD-set-same, getD-set-other}
 use Rattle.chains.specs.Limits.{max-prods, max-members}
 use Rattle.chains.specs.Grouping.{Members}
 use Rattle.chains.specs.Plausible.{Plausible}
@@ -19,16 +17,14 @@ use Rattle.book.proofs.Accepted.{Accepted, arity-read, kid-read}
 use Rattle.tables.specs.Sets.{Has}
 use Rattle.tables.specs.Memory.{Fine, Kept, Turned, cleared}
 use Rattle.tables.specs.Visit.{Gathered, OldOr}
-use Rattle.tables.specs.Sweep.{total, Marked, Attended, Swept, Outcome}
+use Rattle.tables.specs.Sweep.{total, Attended, Swept, Outcome}
 use Rattle.tables.specs.Upward.{up-step, up-into, up-watch, UpServed, UpMarks, UpSwept, UpClosed}
 use Rattle.tables.specs.declared.sets.Turn.{Turn}
-use Rattle.tables.specs.declared.sets.Turn.the-variants.{Still, Added, Full}
-use Rattle.tables.proofs.Memory.{kept-refl, turned-map, Lasts}
+use Rattle.tables.specs.declared.sets.Turn.the-variants.{Still}
+use Rattle.tables.proofs.Memory.{turned-map, Lasts}
 use Rattle.tables.proofs.Holds.{fine-holds}
 use Rattle.tables.proofs.Gathering.{turned-widen}
-use Rattle.tables.proofs.StateBase.{few-kids}
-use Rattle.tables.proofs.Sweeping.{total-agree, Watches, since-now, since-later, since-earlier, since-closed, marked-later, mark-visit, marked-served, turned-done}
-use Rattle.tables.proofs.UpwardVisit.{kind-known}
+use Rattle.tables.proofs.Sweeping.{total-agree, Watches, since-now, since-later, since-earlier, since-closed, spared, attended}
 
 -- codes of some kinds, in other sets that have them
 pub members-change : (A B : ℕ → ℕ → Type 0) (ks cs : List ℕ) → ((i x : ℕ) → i < length ks → A (getD ks i 0) x → B (getD ks i 0) x) → Members A ks cs → Members B ks cs
@@ -60,38 +56,20 @@ module _ {b : List ℕ} (a : Accepted b) (p : ℕ) (l : p < prods b) where
 
     -- it is passed over
     pub up-spared : getD marks p 0 ≡ mark → Attended (kinds b) (Plausible (grammar b)) (UpServed b p s c s c) (UpMarks b marks) s c s c Still
-    up-spared q = record {
-      turned = record {
-        fine = f;
-        kept = kept-refl (kinds b) s c;
-        case = (refl, refl, marked-served f up-known (λ j h. up-watches b p j) (q ∙ watched) (old p l));
-      };
-      marked = λ n. old;
-    }
+    up-spared = spared (kinds b) (prods b) (λ q. 1) (λ q. length (grammar b .kids q)) (up-step b) (up-into b) (up-watch b) marks l f old watched up-known (λ j h. up-watches b p j)
 
     -- it is visited
     pub up-attended : {s′ c′ marks′ : List ℕ} {r : Turn} → length marks ≡ max-prods → marks′ ≡ set marks p mark
         → Turned (kinds b) (OldOr s c (grammar b .left p) (StepUp (grammar b) (Has s c) p)) (Gathered (grammar b .left p) (StepUp (grammar b) (Has s c) p) s′ c′) s c s′ c′ r
         → Attended (kinds b) (Plausible (grammar b)) (UpServed b p s c s′ c′) (UpMarks b marks′) s c s′ c′ r
-    up-attended {s′} {c′} {marks′} {r} long m u = record {
-      turned = now;
-      marked = λ n q h. go q h (turned-done r n now) (ℕ-discrete q p);
-    }
+    up-attended {r = r} long m u =
+        attended (kinds b) (prods b) (λ q. 1) (λ q. length (grammar b .kids q)) (up-step b) (up-into b) (up-watch b) marks l f old watched (λ q j h k. a .lawful .left-in q h) (omega (arith, a .few-prods)) m
+        (turned-map r (λ g j h. since-now (up-step b p j) f (u .kept) g) (turned-widen sound r u))
       where
         sound : (k x : ℕ) → k < kinds b → OldOr s c (grammar b .left p) (StepUp (grammar b) (Has s c) p) k x → Plausible (grammar b) k x
         sound k x h (inl o) = f .only k x h o
         sound k x h (inr (q, o)) =
             rw q (plausible-sound (grammar b) (a .lawful) p x l (up-watches b p 0 (Has s c) (Plausible (grammar b)) (λ i x h. f .only (up-watch b p i) x (up-known i h)) x o))
-
-        now : Turned (kinds b) (Plausible (grammar b)) (UpServed b p s c s′ c′) s c s′ c′ r
-        now = turned-map r (λ g j h. since-now (up-step b p j) f (u .kept) g) (turned-widen sound r u)
-
-        go : (q : ℕ) → q < prods b → UpServed b p s c s′ c′ → Dec (q ≡ p)
-            → Marked (kinds b) 1 (up-step b q) (up-into b q) (up-watch b q) (length (grammar b .kids q)) (getD marks′ q 0) s′ c′
-        go q h d (yes z) =
-            rw (z, m, getD-set-same marks p mark 0 (omega (arith, a .few-prods)))
-            (mark-visit (λ j k. a .lawful .left-in p l) (u .kept) watched d)
-        go q h d (no z) = rw (m, getD-set-other marks p q mark 0 z) (marked-later (λ j k. a .lawful .left-in q h) (u .kept) (old q h))
 
 -- ---- the sweep
 -- what the turn of production p is to bring about, from s₀, c₀ on

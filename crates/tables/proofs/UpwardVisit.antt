@@ -1,22 +1,21 @@
 -- A visit of the upward pass: what it needs, and what it puts in.
-use mathlib.Core.Path.{_≡_, refl, sym, ap, _∙_, subst}
+use mathlib.Core.Path.{_≡_, refl, subst}
 use mathlib.Core.Logic.{_↔_}
-use mathlib.Core.List.{List, [], _∷_}
+use mathlib.Core.List.{List}
 use Prim.Native.Nat.{ℕ, zero, suc, _≤_, _<_}
 use native.Mathlib.Omega.{arith}
 use lib.ListN.{length, getD}
-use Rattle.chains.specs.Grammar.{Grammar, slots}
-use Rattle.chains.specs.Grouping.{Members}
+use Rattle.chains.specs.Grammar.{slots}
 use Rattle.chains.specs.Gather.{UpTo, CodesOf}
 use Rattle.chains.specs.Steps.{StepUp}
 use Rattle.chains.proofs.Gathered.{gathered-up}
 use Rattle.book.specs.Format.{arity-at, entry, kinds, prods, grammar}
-use Rattle.book.specs.Reading.{kind-in, kid-at}
-use Rattle.book.proofs.Accepted.{Accepted, arity-read, kid-read, kind-in-read}
+use Rattle.book.specs.Reading.{kind-in}
+use Rattle.book.proofs.Accepted.{Accepted, arity-read, kind-in-read}
 use Rattle.tables.specs.Sets.{Has}
 use Rattle.tables.specs.Memory.{Placed, Fine, Turned}
 use Rattle.tables.specs.State.{based}
-use Rattle.tables.specs.Visit.{Yields, Gathered, OldOr, Gathers, InOrder, Opening, Prepared}
+use Rattle.tables.specs.Visit.{Yields, Gathered, OldOr, Gathers, Opening, Prepared}
 use Rattle.tables.specs.declared.sets.Turn.{Turn}
 use Rattle.tables.specs.declared.gather.Visit.{Visit}
 use Rattle.tables.proofs.Memory.{fine-placed}

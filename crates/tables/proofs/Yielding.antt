@@ -3,14 +3,13 @@ use mathlib.Core.Path.{_≡_, refl, sym, _∙_, subst}
 use mathlib.Core.Logic.{_⊎_, inl, inr, _↔_}
 use mathlib.Core.Bool.{Bool, true, false}
 use mathlib.Core.List.{List}
-use Prim.Native.Nat.{ℕ, zero, suc, _+_, _*_, _≤_, _<_}
+use Prim.Native.Nat.{ℕ, zero, suc, _≤_, _<_}
 use native.Mathlib.Omega.{arith}
 use borrow.Author.Tests.{eqb-true, eqb-false}
 use lib.Dec.{eqb}
-use lib.ListN.{length}
 use Rattle.lists.specs.Pick.{pick}
 use Rattle.lists.proofs.Order.{by-order}
-use Rattle.chains.specs.Limits.{max-settings, max-kids}
+use Rattle.chains.specs.Limits.{max-settings}
 use Rattle.chains.specs.Grammar.{Occ, Grammar, width}
 use Rattle.chains.specs.Chain.{Eqv, done, fwd}
 use Rattle.chains.specs.Labels.{joins}
@@ -20,7 +19,7 @@ use Rattle.chains.proofs.Closure.{more}
 use Rattle.chains.proofs.Gather.{result-map, result-open, result-none, result-more}
 use Rattle.chains.proofs.Tying.{tied-shown}
 use Rattle.tables.specs.State.{State, Whole, tidied}
-use Rattle.tables.specs.Visit.{slot-of, width-of, size-of, code-of, released, tied, chosen, Yields, Ready, Standing}
+use Rattle.tables.specs.Visit.{slot-of, width-of, size-of, code-of, chosen, Yields, Ready, Standing}
 use Rattle.tables.specs.declared.gather.Visit.{Visit}
 use Rattle.tables.proofs.State.{tie-means}
 use Rattle.tables.proofs.StateWalk.{tidy-shown, code-only, step-result}

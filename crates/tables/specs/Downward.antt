@@ -1,12 +1,15 @@
 -- The downward pass over an accepted book with its plausible sets s, counted by c, as its sweeps go.
+use mathlib.Core.Path.{_≡_}
 use mathlib.Core.List.{List}
-use Prim.Native.Nat.{ℕ, suc, _-_, _<_}
+use Prim.Native.Nat.{ℕ, suc, _-_, _*_, _<_}
 use lib.Dec.{eqb, ltb}
-use lib.ListN.{length, getD}
+use lib.ListN.{length, getD, set}
 use Rattle.lists.specs.Pick.{pick}
+use Rattle.lists.specs.Part.{place}
+use Rattle.chains.specs.Limits.{max-members}
 use Rattle.chains.specs.Steps.{StepDown}
 use Rattle.book.specs.Format.{kinds, prods, grammar}
-use Rattle.tables.specs.Sets.{Has}
+use Rattle.tables.specs.Sets.{members, Has}
 use Rattle.tables.specs.Sweep.{Served, Marked}
 
 -- ── a visit for the child in slot t ──
@@ -42,3 +45,9 @@ DownSwept b s c f₀ d₀ f d = (p : ℕ) → p < prods b → DownServed b s c p
 -- every production's results are in, for each child
 abbrev pub DownClosed : (b s c f d : List ℕ) → Type 0
 DownClosed b s c f d = (p j x : ℕ) → p < prods b → j < length (grammar b .kids p) → down-step b s c p j (Has f d) x → Has f d (down-into b p j) x
+
+-- ── the beginning ──
+-- kind k's members, off the sets s with the counts c, put into its set in f, and counted in d
+pub record Seeded (k : ℕ) (s c f d f′ d′ : List ℕ) : Type 0 where
+  pub held : f′ ≡ place (k * max-members) (members s c k) f
+  pub counted : d′ ≡ set d k (getD c k 0)

@@ -1,9 +1,7 @@
 -- The upward pass over an accepted book, as its sweeps go.
-use mathlib.Core.Path.{_≡_}
 use mathlib.Core.List.{List}
 use Prim.Native.Nat.{ℕ, _<_}
 use lib.ListN.{length, getD}
-use Rattle.chains.specs.Grammar.{Grammar}
 use Rattle.chains.specs.Steps.{StepUp}
 use Rattle.book.specs.Format.{kinds, prods, grammar}
 use Rattle.tables.specs.Sets.{Has}

@@ -14,7 +14,7 @@ use Rattle.book.specs.Reading.{kind-in}
 use Rattle.tables.specs.Sets.{members, member, Has}
 use Rattle.tables.specs.Memory.{Fine, Turned}
 use Rattle.tables.specs.State.{State, Whole, Readable, width-in, based, tidied}
-use Rattle.tables.specs.Seen.{levels, Stored}
+use Rattle.tables.specs.Seen.{Stored}
 use Rattle.tables.specs.declared.sets.Turn.{Turn}
 use Rattle.tables.specs.declared.gather.Visit.{Visit}
 

@@ -1,24 +1,23 @@
 // The downward pass: the feasible groupings of every kind, from the plausible ones.
 ghost use mathlib.Core.Path.{_≡_};
 ghost use Prim.Native.Nat.{ℕ, suc, _+_, _*_, _<_, _≤_};
-ghost use lib.ListN.{length, getD};
+ghost use lib.ListN.{length};
 ghost use Rattle.chains.specs.Limits.{max-kids, max-members, max-prods};
 ghost use Rattle.chains.specs.Plausible.{Plausible};
 ghost use Rattle.chains.specs.Feasible.{Feasible};
 ghost use Rattle.book.specs.Format.{arity-at, entry, kinds, prods, grammar};
-ghost use Rattle.book.specs.Reading.{kind-in, Index};
+ghost use Rattle.book.specs.Reading.{told, kind-in, Index};
 ghost use Rattle.book.proofs.Accepted.{Accepted};
 ghost use Rattle.tables.specs.Sets.{Has};
 ghost use Rattle.tables.specs.Memory.{Placed, Fine, Turned};
 ghost use Rattle.tables.specs.Visit.{max-turns, Gathered, OldOr, Opened, Opening};
-ghost use Rattle.tables.specs.Sweep.{Attended, Swept, Outcome};
-ghost use Rattle.tables.specs.Downward.{slot-down, given, down-step, down-into, DownServed, DownMarks, DownSwept, DownClosed};
-
+ghost use Rattle.tables.specs.Sweep.{Attended, Swept, Exact, Outcome};
+ghost use Rattle.tables.specs.Downward.{slot-down, given, down-step, down-into, DownServed, DownMarks, DownSwept, DownClosed, Seeded};
 use super::gather::Visit;
 use super::sets::MAX_MEMBERS;
 use super::sets::Turn;
-use super::sets::clear32;
 use super::sets::clear8;
+use super::sets::clear32;
 use super::sets::copy_members;
 use super::sets::count;
 use super::visit::LIST_PLACES;
@@ -110,32 +109,55 @@ fn prepare_down(
 }
 
 // All results of the production whose entry stands at `at`, over the sets as they stand, put into the set of the child in slot t.
-fn visit_down(book: &[u8], at: usize, t: u8, plausible: &[u32], counts: &[u8], feasible: &mut [u32], tally: &mut [u8]) -> Turn
+fn visit_down(
+    book: &[u8],
+    at: usize,
+    t: u8,
+    plausible: &[u32],
+    counts: &[u8],
+    feasible: &mut [u32],
+    tally: &mut [u8],
+) -> Turn
     requires { ⌜ Accepted (now book) × ((p : ℕ) × (j : ℕ) × (p < prods (now book)) × (at ≡ entry (now book) p) × (j < length (grammar (now book) .kids p)) × (t ≡ suc j))
         × Fine (kinds (now book)) (Plausible (grammar (now book))) (now plausible) (now counts)
         × Fine (kinds (now book)) (Has (now feasible) (now tally)) (now feasible) (now tally) ⌝ }
     ensures { λ r. ⌜ ((p j : ℕ) → p < prods (now (book .entry)) → at ≡ entry (now (book .entry)) p → j < length (grammar (now (book .entry)) .kids p) → t ≡ suc j
         → Turned (kinds (now (book .entry)))
-            (OldOr (now (feasible .entry)) (now (tally .entry)) (down-into (now (book .entry)) p j)
-                (down-step (now (book .entry)) (now (plausible .entry)) (now (counts .entry)) p j (Has (now (feasible .entry)) (now (tally .entry)))))
-            (Gathered (down-into (now (book .entry)) p j)
-                (down-step (now (book .entry)) (now (plausible .entry)) (now (counts .entry)) p j (Has (now (feasible .entry)) (now (tally .entry)))) (now (feasible .exit)) (now (tally .exit)))
-            (now (feasible .entry)) (now (tally .entry)) (now (feasible .exit)) (now (tally .exit)) r) ⌝ }
+        (OldOr (now (feasible .entry)) (now (tally .entry)) (down-into (now (book .entry)) p j)
+        (down-step (now (book .entry)) (now (plausible .entry)) (now (counts .entry)) p j (Has (now (feasible .entry)) (now (tally .entry)))))
+        (Gathered (down-into (now (book .entry)) p j)
+        (down-step (now (book .entry)) (now (plausible .entry)) (now (counts .entry)) p j (Has (now (feasible .entry)) (now (tally .entry)))) (now (feasible .exit)) (now (tally .exit)))
+        (now (feasible .entry)) (now (tally .entry)) (now (feasible .exit)) (now (tally .exit)) r) ⌝ }
 {
     let mut lists = [0u32; LIST_PLACES];
     let v = prepare_down(book, at, t, plausible, counts, feasible, tally, &mut lists);
-    visit(book, at, v, wide(book::arity(book, at)) + 1, &lists, feasible, tally)
+    visit(
+        book,
+        at,
+        v,
+        wide(book::arity(book, at)) + 1,
+        &lists,
+        feasible,
+        tally,
+    )
 }
 
 // A visit for each child.
-fn serve_down(book: &[u8], at: usize, plausible: &[u32], counts: &[u8], feasible: &mut [u32], tally: &mut [u8]) -> Turn
+fn serve_down(
+    book: &[u8],
+    at: usize,
+    plausible: &[u32],
+    counts: &[u8],
+    feasible: &mut [u32],
+    tally: &mut [u8],
+) -> Turn
     requires { ⌜ Accepted (now book) × ((p : ℕ) × (p < prods (now book)) × (at ≡ entry (now book) p))
         × Fine (kinds (now book)) (Plausible (grammar (now book))) (now plausible) (now counts)
         × Fine (kinds (now book)) (Feasible (grammar (now book))) (now feasible) (now tally) ⌝ }
     ensures { λ r. ⌜ ((p : ℕ) → p < prods (now (book .entry)) → at ≡ entry (now (book .entry)) p
         → Turned (kinds (now (book .entry))) (Feasible (grammar (now (book .entry))))
-            (DownServed (now (book .entry)) (now (plausible .entry)) (now (counts .entry)) p (now (feasible .entry)) (now (tally .entry)) (now (feasible .exit)) (now (tally .exit)))
-            (now (feasible .entry)) (now (tally .entry)) (now (feasible .exit)) (now (tally .exit)) r) ⌝ }
+        (DownServed (now (book .entry)) (now (plausible .entry)) (now (counts .entry)) p (now (feasible .entry)) (now (tally .entry)) (now (feasible .exit)) (now (tally .exit)))
+        (now (feasible .entry)) (now (tally .entry)) (now (feasible .exit)) (now (tally .exit)) r) ⌝ }
 {
     let n = book::arity(book, at);
     let mut added = false;
@@ -153,4 +175,141 @@ fn serve_down(book: &[u8], at: usize, plausible: &[u32], counts: &[u8], feasible
         j += 1;
     }
     if added { Turn::Added } else { Turn::Still }
+}
+
+// Production p's turn in a sweep. It is passed over where its left kind has no more feasible groupings than at its last visit: all its results are in.
+fn attend_down(
+    book: &[u8],
+    at: usize,
+    p: usize,
+    marks: &mut [u16],
+    plausible: &[u32],
+    counts: &[u8],
+    feasible: &mut [u32],
+    tally: &mut [u8],
+) -> Turn
+    requires { ⌜ Accepted (now book) × (p < prods (now book)) × (at ≡ entry (now book) p) × (length (now marks) ≡ max-prods)
+        × Fine (kinds (now book)) (Plausible (grammar (now book))) (now plausible) (now counts)
+        × Fine (kinds (now book)) (Feasible (grammar (now book))) (now feasible) (now tally)
+        × DownMarks (now book) (now plausible) (now counts) (now marks) (now feasible) (now tally) ⌝ }
+    ensures { λ r. ⌜ Attended (kinds (now (book .entry))) (Feasible (grammar (now (book .entry))))
+        (DownServed (now (book .entry)) (now (plausible .entry)) (now (counts .entry)) p (now (feasible .entry)) (now (tally .entry)) (now (feasible .exit)) (now (tally .exit)))
+        (DownMarks (now (book .entry)) (now (plausible .entry)) (now (counts .entry)) (now (marks .exit)))
+        (now (feasible .entry)) (now (tally .entry)) (now (feasible .exit)) (now (tally .exit)) r ⌝ }
+{
+    let mark = word(tally[wide(book::left(book, at))]) + 1;
+    if marks[p] == mark {
+        return Turn::Still;
+    }
+    marks[p] = mark;
+    serve_down(book, at, plausible, counts, feasible, tally)
+}
+
+// All productions in order.
+fn sweep_down(
+    book: &[u8],
+    places: &[usize],
+    marks: &mut [u16],
+    plausible: &[u32],
+    counts: &[u8],
+    feasible: &mut [u32],
+    tally: &mut [u8],
+) -> Turn
+    requires { ⌜ Accepted (now book) × Index (now book) (now places) × (length (now marks) ≡ max-prods)
+        × Fine (kinds (now book)) (Plausible (grammar (now book))) (now plausible) (now counts)
+        × Fine (kinds (now book)) (Feasible (grammar (now book))) (now feasible) (now tally)
+        × DownMarks (now book) (now plausible) (now counts) (now marks) (now feasible) (now tally) ⌝ }
+    ensures { λ r. ⌜ Attended (kinds (now (book .entry))) (Feasible (grammar (now (book .entry))))
+        (DownSwept (now (book .entry)) (now (plausible .entry)) (now (counts .entry)) (now (feasible .entry)) (now (tally .entry)) (now (feasible .exit)) (now (tally .exit)))
+        (DownMarks (now (book .entry)) (now (plausible .entry)) (now (counts .entry)) (now (marks .exit)))
+        (now (feasible .entry)) (now (tally .entry)) (now (feasible .exit)) (now (tally .exit)) r ⌝ }
+{
+    let n = span(book::productions(book));
+    let mut added = false;
+    let mut p = 0;
+    while p < n {
+        match attend_down(
+            book,
+            places[p],
+            p,
+            marks,
+            plausible,
+            counts,
+            feasible,
+            tally,
+        ) {
+            Turn::Still => {}
+            Turn::Added => {
+                added = true;
+            }
+            Turn::Full => {
+                return Turn::Full;
+            }
+        }
+        p += 1;
+    }
+    if added { Turn::Added } else { Turn::Still }
+}
+
+// Sweeps until one adds nothing; false where some set would be over-full.
+fn close_down(
+    book: &[u8],
+    places: &[usize],
+    plausible: &[u32],
+    counts: &[u8],
+    feasible: &mut [u32],
+    tally: &mut [u8],
+) -> bool
+    requires { ⌜ Accepted (now book) × Index (now book) (now places)
+        × Fine (kinds (now book)) (Plausible (grammar (now book))) (now plausible) (now counts)
+        × Fine (kinds (now book)) (Feasible (grammar (now book))) (now feasible) (now tally) ⌝ }
+    ensures { λ r. ⌜ Swept (kinds (now (book .entry))) (Feasible (grammar (now (book .entry))))
+        (DownClosed (now (book .entry)) (now (plausible .entry)) (now (counts .entry)) (now (feasible .exit)) (now (tally .exit)))
+        (now (feasible .entry)) (now (tally .entry)) (now (feasible .exit)) (now (tally .exit)) r ⌝ }
+{
+    let mut marks = [0u16; MARKS];
+    loop {
+        match sweep_down(book, places, &mut marks, plausible, counts, feasible, tally) {
+            Turn::Still => {
+                return true;
+            }
+            Turn::Added => {}
+            Turn::Full => {
+                return false;
+            }
+        }
+    }
+}
+
+// The start's feasible groupings are its plausible ones.
+fn seed(book: &[u8], plausible: &[u32], counts: &[u8], feasible: &mut [u32], tally: &mut [u8])
+    requires { ⌜ Placed (now plausible) (now counts) (told (now book) 3) × (told (now book) 3 * max-members + max-members ≤ length (now feasible))
+        × (told (now book) 3 < length (now tally)) ⌝ }
+    ensures { λ _. ⌜ Seeded (told (now (book .entry)) 3) (now (plausible .entry)) (now (counts .entry)) (now (feasible .entry)) (now (tally .entry)) (now (feasible .exit)) (now (tally .exit)) ⌝ }
+{
+    let k = span(book::start(book));
+    copy_members(plausible, k, count(counts, k), feasible, k * MAX_MEMBERS);
+    tally[k] = counts[k];
+}
+
+// The feasible groupings of every kind, from the plausible ones; false where some kind has over 64 of them. Whatever stood in the sets before decides
+// nothing.
+pub fn downward(
+    book: &[u8],
+    places: &[usize],
+    plausible: &[u32],
+    counts: &[u8],
+    feasible: &mut [u32],
+    tally: &mut [u8],
+) -> bool
+    requires { ⌜ Accepted (now book) × Index (now book) (now places) × Exact (kinds (now book)) (Plausible (grammar (now book))) (now plausible) (now counts)
+        × (kinds (now book) * max-members ≤ length (now feasible)) × (kinds (now book) ≤ length (now tally)) ⌝ }
+    ensures { λ r. ⌜ Outcome (kinds (now (book .entry))) (Feasible (grammar (now (book .entry))))
+        (now (feasible .entry)) (now (tally .entry)) (now (feasible .exit)) (now (tally .exit)) r ⌝ }
+{
+    let n = span(book::kinds(book));
+    clear32(feasible, n * MAX_MEMBERS);
+    clear8(tally, n);
+    seed(book, plausible, counts, feasible, tally);
+    close_down(book, places, plausible, counts, feasible, tally)
 }

@@ -1,7 +1,7 @@
 // What comes of all choices of codes for a production's slots, gathered into one kind's set.
 ghost use mathlib.Core.Path.{_≡_};
 ghost use Prim.Native.Nat.{suc, _<_, _≤_};
-ghost use lib.ListN.{length, getD};
+ghost use lib.ListN.{length};
 ghost use Rattle.chains.specs.Limits.{max-kids};
 ghost use Rattle.chains.specs.State.{code-on};
 ghost use Rattle.ranks.specs.Entries.{labels};

@@ -21,3 +21,10 @@ pub enum Built {
     Refused { number: u8, place: u16 },
 }
 mod downward;
+mod downward;
+mod gather;
+mod labels;
+mod seen;
+mod sets;
+mod upward;
+mod visit;

@@ -2,10 +2,8 @@
 // which the oldest is overwritten.
 ghost use mathlib.Core.Path.{_≡_};
 ghost use mathlib.Core.Bool.{true};
-ghost use Prim.Native.Nat.{_+_, _*_, _%_, _<_, _≤_, min};
-ghost use lib.ListN.{length, getD};
-ghost use lib.Dec.{ltb};
-ghost use Rattle.lists.specs.Pick.{pick};
+ghost use Prim.Native.Nat.{_+_, _*_, _%_, _<_, min};
+ghost use lib.ListN.{length};
 ghost use Rattle.ranks.specs.Entries.{labels};
 ghost use Rattle.tables.specs.Seen.{places, levels, seen-bytes, filled, advanced, Found, remembered};
 use super::labels::LABELS;

@@ -1,7 +1,7 @@
 // The upward pass: the plausible groupings of every kind.
 ghost use mathlib.Core.Path.{_≡_};
 ghost use Prim.Native.Nat.{ℕ, suc, _*_, _<_, _≤_};
-ghost use lib.ListN.{length, getD};
+ghost use lib.ListN.{length};
 ghost use Rattle.chains.specs.Limits.{max-kids, max-members, max-prods};
 ghost use Rattle.chains.specs.Steps.{StepUp};
 ghost use Rattle.chains.specs.Plausible.{Plausible};

@@ -64,7 +64,7 @@ returns c = λ p l e.
     let h = c .before .before .before .before .before .before .before .before .before .before .loop .inv p l e in
     let k : c .before .before .before .before .before .before .before .before .before .before .loop .j < length (grammar (c .before .before .before .before .before .before .before .before .before .before .before .before .before .before .before .before .before .args .book .now) .kids p) = omega arith in
     let u = down-visited a p l (c .before .before .before .before .before .before .before .before .before .before .before .before .before .before .before .before .before .args .plausible .now) (c .before .before .before .before .before .before .before .before .before .before .before .before .before .before .before .before .before .args .counts .now) (c .before .before .before .before .before .before .before .before .before .before .before .before .before .before .before .before .before .args .feasible .now) (c .before .before .before .before .before .before .before .before .before .before .before .before .before .before .before .before .before .args .tally .now) s (h .fine) (h .kept) k
-        (c .before .before .before .before .before .before .visit-down .ensures p (c .before .before .before .before .before .before .before .before .before .before .loop .j) l e k (omega arith)) in
+    (c .before .before .before .before .before .before .visit-down .ensures p (c .before .before .before .before .before .before .before .before .before .before .loop .j) l e k (omega arith)) in
     on-full h u (DownServed (c .before .before .before .before .before .before .before .before .before .before .before .before .before .before .before .before .before .args .book .now) (c .before .before .before .before .before .before .before .before .before .before .before .before .before .before .before .before .before .args .plausible .now) (c .before .before .before .before .before .before .before .before .before .before .before .before .before .before .before .before .before .args .counts .now) p (c .before .before .before .before .before .before .before .before .before .before .before .before .before .before .before .before .before .args .feasible .now) (c .before .before .before .before .before .before .before .before .before .before .before .before .before .before .before .before .before .args .tally .now) _ _) (c .enum-told3 .given .1)
 
 add-j : tie.Need-add-j Inv-loop μ-loop
@@ -80,7 +80,7 @@ loop-again c = λ p l e.
     let h = c .before .before .before .before .before .before .before .before .before .loop .inv p l e in
     let k : c .before .before .before .before .before .before .before .before .before .loop .j < length (grammar (c .before .before .before .before .before .before .before .before .before .before .before .before .before .before .before .before .args .book .now) .kids p) = omega arith in
     let u = down-visited a p l (c .before .before .before .before .before .before .before .before .before .before .before .before .before .before .before .before .args .plausible .now) (c .before .before .before .before .before .before .before .before .before .before .before .before .before .before .before .before .args .counts .now) (c .before .before .before .before .before .before .before .before .before .before .before .before .before .before .before .before .args .feasible .now) (c .before .before .before .before .before .before .before .before .before .before .before .before .before .before .before .before .args .tally .now) s (h .fine) (h .kept) k
-        (c .before .before .before .before .before .visit-down .ensures p (c .before .before .before .before .before .before .before .before .before .loop .j) l e k (omega arith)) in
+    (c .before .before .before .before .before .visit-down .ensures p (c .before .before .before .before .before .before .before .before .before .loop .j) l e k (omega arith)) in
     ⊎-elim (λ m. rw (m .2) (on-still h u (m .1 .given .1)))
     (λ m. rw (m .2) (on-added h u (down-visit-lasts a p l (c .before .before .before .before .before .before .before .before .before .before .before .before .before .before .before .before .args .plausible .now) (c .before .before .before .before .before .before .before .before .before .before .before .before .before .before .before .before .args .counts .now) (c .before .before .before .before .before .before .before .before .before .before .before .before .before .before .before .before .args .feasible .now) (c .before .before .before .before .before .before .before .before .before .before .before .before .before .before .before .before .args .tally .now)) (m .1 .given .1))) (c .match .came)
 

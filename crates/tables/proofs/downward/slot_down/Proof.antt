@@ -1,7 +1,6 @@
 -- The order of the turns of a downward visit. Assumes nothing.
 use mathlib.Core.Path.{sym}
 use Rattle.tables.proofs.DownwardVisit.{slot-first, slot-later, slot-sooner}
-use native.Mathlib.Omega.{arith}
 use borrow.Author.Needs.{needs}
 use Rattle.tables.proofs.downward.slot_down.Statement.{statement}
 use Rattle.tables.proofs.downward.slot_down.Tie as tie

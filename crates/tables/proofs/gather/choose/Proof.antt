@@ -3,7 +3,6 @@ use borrow.Author.Needs.{needs}
 use mathlib.Core.Path.{ap, _∙_}
 use native.Mathlib.Omega.{arith}
 use lib.ListN.{length}
-use Rattle.tables.specs.State.{State}
 use Rattle.tables.proofs.Choosing.{copied-over, step-tied, step-released, step-chosen, tied-state, released-state}
 use Rattle.tables.proofs.gather.choose.Statement.{statement}
 use Rattle.tables.proofs.gather.choose.Tie as tie

@@ -1,7 +1,6 @@
 -- The counter goes round. Assumes nothing.
 use borrow.Author.Needs.{needs}
 use borrow.Author.Tests.{lt-ltb, le-ltb}
-use native.Mathlib.Omega.{arith}
 use Rattle.tables.proofs.seen.advanced.Statement.{statement}
 use Rattle.tables.proofs.seen.advanced.Tie as tie
 

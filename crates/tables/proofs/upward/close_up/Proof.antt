@@ -8,7 +8,6 @@ use Rattle.tables.specs.Memory.{room}
 use Rattle.tables.specs.Upward.{UpMarks}
 use Rattle.tables.proofs.Sweeping.{Closing, close-begun, close-less, close-added, close-still, close-full}
 use Rattle.tables.proofs.UpwardSweep.{up-unmarked, up-closed}
-use native.Mathlib.Omega.{arith}
 use borrow.Author.Needs.{needs}
 use Rattle.tables.proofs.upward.close_up.Statement.{statement}
 use Rattle.tables.proofs.upward.close_up.Tie as tie

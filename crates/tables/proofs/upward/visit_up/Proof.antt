@@ -2,7 +2,6 @@
 use mathlib.Core.Path.{refl}
 use Rattle.tables.proofs.StateBase.{few-kids}
 use Rattle.tables.proofs.UpwardVisit.{slot-placed, up-prepared, up-gathers}
-use native.Mathlib.Omega.{arith}
 use borrow.Author.Needs.{needs}
 use Rattle.tables.proofs.upward.visit_up.Statement.{statement}
 use Rattle.tables.proofs.upward.visit_up.Tie as tie

@@ -1,7 +1,7 @@
 -- The sum of the children's counts. Assumes nothing.
 use lib.ListN.{getD}
 use Rattle.book.specs.Format.{arity-at}
-use mathlib.Core.Path.{_≡_, sym, ap, _∙_}
+use mathlib.Core.Path.{_≡_, sym, ap}
 use Prim.Native.Nat.{suc, _+_, _*_, _≤_, _-_}
 use Rattle.book.specs.Reading.{kid-at}
 use Rattle.tables.specs.Sweep.{total}

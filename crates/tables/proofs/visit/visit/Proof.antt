@@ -1,6 +1,5 @@
 -- A visit made. Assumes nothing.
 use Rattle.tables.proofs.Visiting.{visit-barren, visit-request, visit-done}
-use native.Mathlib.Omega.{arith}
 use borrow.Author.Needs.{needs}
 use Rattle.tables.proofs.visit.visit.Statement.{statement}
 use Rattle.tables.proofs.visit.visit.Tie as tie

@@ -1,0 +1,64 @@
+-- The start's plausible groupings copied. Assumes nothing.
+use mathlib.Core.Path.{_≡_, _∙_}
+use Prim.Native.Nat.{_+_, _*_, _≤_}
+use lib.ListN.{length}
+use Rattle.chains.specs.Limits.{max-members}
+use Rattle.book.specs.Reading.{told}
+use Rattle.tables.specs.Memory.{Placed}
+use native.Mathlib.Omega.{arith}
+use borrow.Author.Needs.{needs}
+use Rattle.tables.proofs.downward.seed.Statement.{statement}
+use Rattle.tables.proofs.downward.seed.Tie as tie
+
+start-requires : tie.Need-start-requires
+start-requires c κs = search needs
+
+span-requires : tie.Need-span-requires
+span-requires c κs = search needs
+
+count-requires : tie.Need-count-requires
+count-requires c κs = search needs
+
+mul-copy-members : tie.Need-mul-copy-members
+mul-copy-members c = search needs
+
+copy-members-requires : tie.Need-copy-members-requires
+copy-members-requires c κs =
+    let k = c .before .before .span .result in
+    let e : k ≡ told (c .before .before .before .before .before .before .before .before .before .args .book .now) 3 = c .before .before .span .ensures .0 ∙ c .before .before .before .start .ensures in
+    let q : Placed (c .before .before .before .before .before .before .before .before .before .args .plausible .now) (c .before .before .before .before .before .before .before .before .before .args .counts .now) k = rw e (c .before .before .before .before .before .before .before .before .before .pre .0) in
+    let h : k * max-members + max-members ≤ length (c .before .before .before .before .before .before .before .before .before .args .feasible .now) = rw e (c .before .before .before .before .before .before .before .before .before .pre .1) in
+    (omega (arith, q .there, q .few), omega (arith, q .few))
+
+shared-slice-read-tally : tie.Need-shared-slice-read-tally
+shared-slice-read-tally c = search needs
+
+slice-write-tally : tie.Need-slice-write-tally
+slice-write-tally c = search needs
+
+same-length : tie.Need-same-length
+same-length c = search needs
+
+same-length-2 : tie.Need-same-length-2
+same-length-2 c = search needs
+
+returns : tie.Need-returns
+returns c = record {
+  held = c .before .before .before .copy-members .ensures ∙ rw (c .before .before .before .before .before .count .ensures .0, c .before .before .before .before .before .before .span .ensures .0, c .before .before .before .before .before .before .before .start .ensures);
+  counted = rw (c .before .before .before .before .before .before .span .ensures .0, c .before .before .before .before .before .before .before .start .ensures);
+}
+
+pub seed-spec : {M : Type 1} → statement M
+seed-spec =
+    tie.close
+    (tie.spec
+    start-requires
+    span-requires
+    count-requires
+    mul-copy-members
+    copy-members-requires
+    shared-slice-read-tally
+    slice-write-tally
+    same-length
+    same-length-2
+    returns)
