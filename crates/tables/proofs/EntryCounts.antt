@@ -1,5 +1,5 @@
 -- The numbers of entries, worked out child by child and production by production.
-use mathlib.Core.Path.{_≡_, refl, sym, ap, ap₂, _∙_}
+use mathlib.Core.Path.{_≡_, sym, ap, ap₂, _∙_}
 use mathlib.Core.List.{List}
 use Prim.Native.Nat.{ℕ, suc, _+_, _-_, _*_, _^_, _≤_, _<_}
 use native.Mathlib.Nat.{mul-le-mul, pow-le-pow-right}
@@ -7,16 +7,21 @@ use native.Mathlib.Numerals.{add-one}
 use native.Mathlib.Omega.{arith}
 use lib.ListN.{length, getD}
 use Rattle.chains.specs.Limits.{max-kids, max-members, max-prods}
-use Rattle.book.specs.Format.{prods, entry, grammar}
+use Rattle.book.specs.Format.{kinds, prods, entry, grammar}
 use Rattle.book.specs.Reading.{told}
 use Rattle.book.proofs.Accepted.{told-prods, place-read}
 use Rattle.ranks.specs.Entries.{choices, up-start, down-start}
 use Rattle.ranks.proofs.Numbers.{choices-few, up-start-few, down-start-few}
+use Rattle.tables.specs.Memory.{Fine}
 use Rattle.tables.specs.State.{Readable, based}
 use Rattle.tables.specs.Fill.{kind-of, kinds-from, ShapeAt, Opened, Small, Countable}
 use Rattle.tables.specs.declared.shape.Shape.{Shape}
 use Rattle.tables.proofs.StateBase.{readable}
 use Rattle.tables.proofs.Shapes.{kinds-step, kinds-none, few-choices, kind-is, kids-are, countable}
+
+-- sets in order have small counts
+pub fine-small : {b : List ℕ} {P : ℕ → ℕ → Type 0} {s c : List ℕ} → Fine (kinds b) P s c → Small b c
+fine-small f = record { here = f .here; few = f .few }
 
 -- ── a production's choices ──
 -- x is the number of choices for the slots behind t

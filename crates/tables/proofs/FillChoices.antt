@@ -1,12 +1,12 @@
 -- The entries of all choices of members for a production's slots: slot by slot, and of each slot rank by rank.
-use mathlib.Core.Path.{_≡_, refl, sym, ap, ap₂, _∙_, subst}
+use mathlib.Core.Path.{_≡_, sym, ap, ap₂, _∙_, subst}
 use mathlib.Core.List.{List, [], _∷_}
-use Prim.Native.Nat.{ℕ, zero, suc, _+_, _-_, _*_, _≤_, _<_}
+use Prim.Native.Nat.{ℕ, suc, _+_, _*_, _≤_, _<_}
 use native.Mathlib.Nat.{one-mul}
 use native.Mathlib.Numerals.{add-one}
 use native.Mathlib.Omega.{arith}
 use lib.ListN.{length, getD}
-use Rattle.chains.specs.Limits.{max-settings, max-kids, max-members}
+use Rattle.chains.specs.Limits.{max-members}
 use Rattle.chains.specs.Labels.{joins}
 use Rattle.chains.specs.State.{code-pairs}
 use Rattle.ranks.specs.Entries.{choices, choice, entry-bytes}
@@ -14,11 +14,11 @@ use Rattle.ranks.proofs.Digits.{digit-once}
 use Rattle.ranks.proofs.Numbers.{choice-below}
 use Rattle.tables.specs.Sets.{member}
 use Rattle.tables.specs.Entries.{Ranks, picked}
-use Rattle.tables.specs.State.{Present, Whole, spot}
+use Rattle.tables.specs.State.{spot}
 use Rattle.tables.specs.Fill.{kind-of, width-of, kinds-from, Sized, Ready, tied-once, tied, InPlace, Entry, entry-size, Rankable, Laid, chosen, Choices, Asked, AllChoices, AllAsked}
 use Rattle.tables.specs.declared.shape.Shape.{Shape}
-use Rattle.tables.specs.declared.fill.Table.{Table}
-use Rattle.tables.specs.declared.fill.Table.the-variants.{Down}
+use Rattle.tables.specs.declared.entry.Table.{Table}
+use Rattle.tables.specs.declared.entry.Table.the-variants.{Down}
 use Rattle.tables.proofs.State.{tie-means}
 use Rattle.tables.proofs.Shapes.{kinds-step, kinds-none}
 use Rattle.tables.proofs.FillRuns.{Behind, laid-map, laid-count, Blocks, blocks-begun, blocks-room, blocks-next, blocks-done}

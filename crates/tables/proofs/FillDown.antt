@@ -1,14 +1,12 @@
 -- The down table: a production's entries, and those of all productions one behind another.
 use mathlib.Core.Path.{_≡_, refl, sym, ap, _∙_, subst, subst₂}
-use mathlib.Core.List.{List, [], _∷_}
-use Prim.Native.Nat.{ℕ, zero, suc, _+_, _*_, _≤_, _<_}
+use mathlib.Core.List.{List}
+use Prim.Native.Nat.{ℕ, suc, _+_, _*_, _≤_, _<_}
 use native.Mathlib.Nat.{mul-le-mul-right}
 use native.Mathlib.Numerals.{add-one}
 use native.Mathlib.Omega.{arith}
-use lib.ListN.{length, getD, take}
-use Rattle.lists.specs.Part.{part}
+use lib.ListN.{length, getD}
 use Rattle.lists.proofs.Order.{by-order}
-use Rattle.chains.specs.Limits.{max-kids}
 use Rattle.chains.specs.Grammar.{Grammar, slots, width}
 use Rattle.chains.specs.Grouping.{Says}
 use Rattle.chains.specs.Plausible.{Plausible}
@@ -17,15 +15,15 @@ use Rattle.chains.specs.State.{code-on}
 use Rattle.book.specs.Format.{kinds, prods, entry, grammar}
 use Rattle.book.specs.Reading.{told}
 use Rattle.book.proofs.Accepted.{Accepted, told-prods}
-use Rattle.ranks.specs.Entries.{choices, choice, down-start, down-entry, labels, entry-bytes, none}
+use Rattle.ranks.specs.Entries.{choices, down-start, down-entry, entry-bytes}
 use Rattle.ranks.proofs.Numbers.{down-start-after, down-entry-below}
 use Rattle.tables.specs.Sets.{member}
 use Rattle.tables.specs.Entries.{Ranks, picked, Downward, Labelled, DownEntry, DownTable}
 use Rattle.tables.specs.Promise.{down-entries, Written}
 use Rattle.tables.specs.State.{based}
-use Rattle.tables.specs.Fill.{kind-of, width-of, kinds-from, ShapeAt, tied, tied-once, Listed, DownBytes, Entry, Laid, chosen, ByAllRanks, AllChoices, AllAsked, Opened, Exact, DownRun, DownAll}
+use Rattle.tables.specs.Fill.{kind-of, kinds-from, ShapeAt, tied, tied-once, Listed, DownBytes, Entry, Laid, chosen, ByAllRanks, AllChoices, AllAsked, Opened, Exact, DownRun, DownAll}
 use Rattle.tables.specs.declared.shape.Shape.{Shape}
-use Rattle.tables.specs.declared.fill.Table.the-variants.{Down}
+use Rattle.tables.specs.declared.entry.Table.the-variants.{Down}
 use Rattle.tables.proofs.Members.{ranked-has}
 use Rattle.tables.proofs.Memory.{fine-placed}
 use Rattle.tables.proofs.StateBase.{few-settings}
@@ -111,3 +109,87 @@ module _ {b : List ℕ} (a : Accepted b) (p : ℕ) (l : p < prods b) {v : Shape}
         Told k ks =
             Laid entry-bytes (getD d k 0 * choices c ks)
             (ByAllRanks (getD d k 0) c ks (λ u rs e. Entry Down f d v (chosen v 1 s ks rs (tied-once v 0 (member f k u) (based b (entry b p)))) e)) out z out′ q
+
+-- the same, of an entry found at its place, with the state made there
+module _ {b places : List ℕ} (o : Opened b places) {p : ℕ} (l : p < prods b) {v : Shape} (h : ShapeAt b (getD places p 0) v) {s c f d : List ℕ}
+    (x : Exact (kinds b) (Plausible (grammar b)) s c) (y : Exact (kinds b) (Feasible (grammar b)) f d) {w : List ℕ} (e : w ≡ based b (getD places p 0))
+    {out : List ℕ} {z : ℕ} where
+  pub down-run-asks : z + getD d (grammar b .left p) 0 * choices c (grammar b .kids p) * entry-bytes ≤ length out → AllAsked v s c f d w out z
+  down-run-asks room = rw (opened-base o p l e) (down-asked (o .book) p l (opened-shape o p l h) x y room)
+
+  pub down-run-laid : {out′ : List ℕ} {q : ℕ} → Laid entry-bytes (getD d (kind-of v 0) 0 * choices c (kinds-from v 1)) (AllChoices v s c f d (kinds-from v 1) w) out z out′ q
+      → Laid entry-bytes (getD d (grammar b .left p) 0 * choices c (grammar b .kids p)) (DownRun (grammar b) s c f d p) out z out′ q
+  down-run-laid k = down-laid (o .book) p l (opened-shape o p l h) x y (rw (opened-base o p l e) at k)
+
+-- ── all productions ──
+-- production p's entries stand behind those of the productions before it
+down-behind : (G : Grammar) (s c f d : List ℕ) (p : ℕ)
+    → Behind (down-start G c d p) (getD d (G .left p) 0 * choices c (G .kids p)) (DownAll G s c f d) (DownRun G s c f d p)
+down-behind G s c f d p i l e q p′ u rs h k r m =
+    by-order (DownEntry G p′ f d (Downward G p′ (member f (G .left p′) u) (picked s (G .kids p′) rs)) e) p′ p here
+    (λ n. absurd (omega (arith, down-entry-below G c d p′ p u rs n k r)))
+    (λ n. absurd (omega (arith, down-start-after G c d p p′ n)))
+  where
+    -- production p, in a family that holds for it
+    Due : ℕ → Type 0
+    Due p′ = u < getD d (G .left p′) 0 → Ranks c (G .kids p′) rs → down-entry G c d p′ u rs ≡ down-start G c d p + i
+        → DownEntry G p′ f d (Downward G p′ (member f (G .left p′) u) (picked s (G .kids p′) rs)) e
+
+    due : Due p
+    due k r m = q u rs k r (omega arith)
+
+    here : p′ ≡ p → DownEntry G p′ f d (Downward G p′ (member f (G .left p′) u) (picked s (G .kids p′) rs)) e
+    here n = subst Due (sym n) due k r m
+
+-- the entries of the first p of n productions
+pub record DownFilling (b s c f d : List ℕ) (n : ℕ) (out out′ : List ℕ) (z p : ℕ) : Type 0 where
+  pub all : n ≡ prods b
+  pub within : p ≤ n
+  pub room : down-entries (grammar b) c d * entry-bytes ≤ length out
+  pub laid : Laid entry-bytes (down-start (grammar b) c d p) (DownAll (grammar b) s c f d) out 0 out′ z
+
+pub down-begun : {b places : List ℕ} → Opened b places → (s c f d : List ℕ) {n m : ℕ} {out : List ℕ} → n ≡ m → m ≡ told b 2
+    → down-entries (grammar b) c d * entry-bytes ≤ length out → DownFilling b s c f d n out out 0 0
+unfolding down-start
+down-begun {b} o s c f d e e′ room = record {
+  all = e ∙ e′ ∙ told-prods (o .book);
+  within = omega arith;
+  room = room;
+  laid = laid-none entry-bytes (DownAll (grammar b) s c f d) _ 0;
+}
+
+module _ {b s c f d : List ℕ} {n : ℕ} {out out′ : List ℕ} {z p : ℕ} (h : DownFilling b s c f d n out out′ z p) where
+  abbrev G′ : Grammar
+  G′ = grammar b
+
+  module _ (l : p < n) where
+    pub down-below : p < prods b
+    down-below = omega (arith, h .all)
+
+    abbrev many : ℕ
+    many = getD d (G′ .left p) 0 * choices c (G′ .kids p)
+
+    after : (down-start G′ c d p + many) * entry-bytes ≤ down-entries G′ c d * entry-bytes
+    after = mul-le-mul-right entry-bytes (down-start-after G′ c d p (prods b) down-below)
+
+    pub down-room : z + many * entry-bytes ≤ length out′
+    down-room = omega (arith, after, h .room, h .laid .ends, h .laid .long)
+
+    pub down-next : {out″ : List ℕ} {y : ℕ} → Laid entry-bytes many (DownRun G′ s c f d p) out′ z out″ y → DownFilling b s c f d n out out″ y (p + 1)
+    unfolding down-start
+    down-next k = record {
+      all = h .all;
+      within = omega arith;
+      room = h .room;
+      laid = rw (add-one p) (laid-then (h .laid) k (omega (arith, after, h .room)) (down-behind G′ s c f d p));
+    }
+
+  -- THEOREM: all entries stand, and the rest is as it came
+  pub down-done : n ≤ p → DownTable G′ s c f d out′ × Written (down-entries G′ c d * entry-bytes) out out′
+  down-done l = (table, laid-written whole (h .room))
+    where
+      whole : Laid entry-bytes (down-entries G′ c d) (DownAll G′ s c f d) out 0 out′ z
+      whole = let e : p ≡ prods b = omega (arith, h .all, h .within) in laid-count (h .laid) (ap (down-start G′ c d) e)
+
+      table : DownTable G′ s c f d out′
+      table q u rs k m r = laid-each whole (h .room) (down-entry G′ c d q u rs) (down-entry-below G′ c d q (prods b) u rs k m r) q u rs k m r refl

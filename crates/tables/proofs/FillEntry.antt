@@ -16,7 +16,7 @@ use Rattle.tables.specs.Sets.{member}
 use Rattle.tables.specs.State.{tidied}
 use Rattle.tables.specs.Fill.{kind-of, width-of, InPlace, Listed, RankOn, ChildRank, ChildRanks, DownBytes, Entry, entry-size, Rankable, Laid}
 use Rattle.tables.specs.declared.shape.Shape.{Shape}
-use Rattle.tables.specs.declared.fill.Table.{Table}
+use Rattle.tables.specs.declared.entry.Table.{Table}
 use Rattle.tables.proofs.StateTidy.{tidy-state}
 use Rattle.tables.proofs.FillRuns.{place-behind, laid-one}
 

@@ -1,6 +1,6 @@
 -- Entries written one behind another: a run of them put over a part of a table, and another behind it.
 use mathlib.Core.Path.{_≡_, refl, sym, ap, _∙_, subst}
-use mathlib.Core.List.{List, [], _∷_, _++_, append-assoc, append-nil}
+use mathlib.Core.List.{List, [], _++_, append-assoc, append-nil}
 use Prim.Native.Nat.{ℕ, zero, suc, _+_, _-_, _*_, _≤_, _<_}
 use native.Mathlib.Nat.{add-zero, add-mul, mul-le-mul-right, one-mul}
 use native.Mathlib.Numerals.{add-one}

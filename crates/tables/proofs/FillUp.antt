@@ -1,7 +1,7 @@
 -- The up table: a production's entries, and those of all productions one behind another.
 use mathlib.Core.Path.{_≡_, refl, sym, ap, _∙_, subst}
-use mathlib.Core.List.{List, [], _∷_}
-use Prim.Native.Nat.{ℕ, zero, suc, _+_, _*_, _≤_, _<_}
+use mathlib.Core.List.{List}
+use Prim.Native.Nat.{ℕ, _+_, _*_, _≤_, _<_}
 use native.Mathlib.Nat.{mul-one}
 use native.Mathlib.Numerals.{add-one}
 use native.Mathlib.Omega.{arith}
@@ -23,7 +23,7 @@ use Rattle.tables.specs.Promise.{up-entries, Written}
 use Rattle.tables.specs.State.{based}
 use Rattle.tables.specs.Fill.{kinds-from, ShapeAt, tied, Listed, Laid, chosen, Choices, Asked, Opened, Exact, UpRun, UpAll}
 use Rattle.tables.specs.declared.shape.Shape.{Shape}
-use Rattle.tables.specs.declared.fill.Table.the-variants.{Up}
+use Rattle.tables.specs.declared.entry.Table.the-variants.{Up}
 use Rattle.tables.proofs.StateBase.{few-settings}
 use Rattle.tables.proofs.StateEntry.{show-says, below-all}
 use Rattle.tables.proofs.Shapes.{kind-is, width-is-of, kids-are}

@@ -2,7 +2,7 @@
 -- entry has from a state. No promise of the library cites this page.
 use mathlib.Core.Path.{_≡_}
 use mathlib.Core.List.{List, [], _∷_}
-use Prim.Native.Nat.{ℕ, zero, suc, _+_, _-_, _*_, _≤_, _<_}
+use Prim.Native.Nat.{ℕ, suc, _+_, _-_, _*_, _≤_, _<_}
 use lib.ListN.{length, getD, take}
 use Rattle.lists.specs.Part.{part, place}
 use Rattle.chains.specs.Limits.{max-settings, max-kids, max-members}
@@ -19,8 +19,8 @@ use Rattle.tables.specs.Entries.{Ranks, picked, Upward, Downward, Ranked
 use Rattle.tables.specs.Memory.{Placed, Fine}
 use Rattle.tables.specs.State.{State, Whole, tidied, width-in}
 use Rattle.tables.specs.declared.shape.Shape.{Shape}
-use Rattle.tables.specs.declared.fill.Table.{Table}
-use Rattle.tables.specs.declared.fill.Table.the-variants.{Up, Down}
+use Rattle.tables.specs.declared.entry.Table.{Table}
+use Rattle.tables.specs.declared.entry.Table.the-variants.{Up, Down}
 
 -- ── the shape of a production ──
 abbrev pub max-slots : ℕ

@@ -1,151 +1,31 @@
 // The entries of the up and the down table. They are written one behind another: production after production, of each the choices with the first
 // child's rank counting most, so that the place of an entry is where the one before it ends.
 ghost use mathlib.Core.Path.{_≡_};
-ghost use Prim.Native.Nat.{suc, _+_, _*_, _<_, _≤_};
+ghost use Prim.Native.Nat.{_+_, _*_, _<_, _≤_};
 ghost use lib.ListN.{length, getD};
-ghost use Rattle.lists.specs.Part.{place};
 ghost use Rattle.chains.specs.Limits.{max-kids, max-members};
 ghost use Rattle.chains.specs.Plausible.{Plausible};
+ghost use Rattle.chains.specs.Feasible.{Feasible};
 ghost use Rattle.book.specs.Format.{kinds, prods, grammar};
-ghost use Rattle.ranks.specs.Entries.{choices, labels, entry-bytes};
+ghost use Rattle.ranks.specs.Entries.{choices, entry-bytes};
 ghost use Rattle.tables.specs.Sets.{member};
-ghost use Rattle.tables.specs.Entries.{UpTable};
-ghost use Rattle.tables.specs.Promise.{up-entries, Written};
-ghost use Rattle.tables.specs.State.{State, tidied};
-ghost use Rattle.tables.specs.Fill.{kind-of, kinds-from, Sized, Ready, tied-once, InPlace, Listed, RankOn, ChildRank, ChildRanks, Rankable, Entry, entry-size, Laid, Choices, Asked, AllAsked, AllChoices, Opened, Exact, UpRun};
+ghost use Rattle.tables.specs.Entries.{UpTable, DownTable};
+ghost use Rattle.tables.specs.Promise.{up-entries, down-entries, Written};
+ghost use Rattle.tables.specs.Fill.{kind-of, kinds-from, Sized, Ready, tied-once, entry-size, Laid, Choices, Asked, AllAsked, AllChoices, Opened, Exact, UpRun, DownRun};
+use super::entry::Table;
+use super::entry::put_entry;
 use super::labels::LABELS;
 use super::labels::NONE;
 use super::labels::base;
-use super::labels::copy_state;
-use super::labels::tidy;
 use super::labels::tie;
-use super::labels::view;
 use super::sets::MAX_MEMBERS;
 use super::sets::count;
-use super::sets::rank;
 use super::shape::Shape;
 use super::shape::shape_of;
-
-// Which table an entry belongs to.
-pub enum Table {
-    Up,
-    Down,
-}
+use super::shape::span;
+use super::shape::wide;
 
 const PRODUCTIONS: usize = book::limits::MAX_PRODUCTIONS as usize;
-
-const CHILDREN: usize = book::limits::MAX_CHILDREN as usize;
-
-// Bytes of a down entry: a label for each occurrence, then a rank for each child.
-const ENTRY: usize = LABELS + CHILDREN;
-
-fn wide(x: u8) -> usize
-    ensures { λ r. ⌜ (r ≡ x) × (r < 256) ⌝ }
-{
-    x as usize
-}
-
-fn span(x: u16) -> usize
-    ensures { λ r. ⌜ (r ≡ x) × (r < 65536) ⌝ }
-{
-    x as usize
-}
-
-// ---- one entry
-
-// The rank of the code that the state shows on a slot.
-fn rank_on(v: Shape, slot: usize, s: &[u8; LABELS], sets: &[u32], counts: &[u8]) -> u8
-    requires { ⌜ InPlace (now sets) (now counts) v (now s) × (slot ≤ v .arity) × Listed (now sets) (now counts) v slot (now s) ⌝ }
-    ensures { λ r. ⌜ RankOn (now (sets .entry)) (now (counts .entry)) v slot (now (s .entry)) r ⌝ }
-{
-    let kind = wide(v.kinds[slot]);
-    let code = view(s, slot as u8, v.widths[slot]);
-    rank(sets, kind, count(counts, kind), code) as u8
-}
-
-// The rank of a child, from 0 on; NONE where there is no such child.
-fn child_rank(v: Shape, j: usize, s: &[u8; LABELS], sets: &[u32], counts: &[u8]) -> u8
-    requires { ⌜ InPlace (now sets) (now counts) v (now s) × (j < v .arity → Listed (now sets) (now counts) v (suc j) (now s)) ⌝ }
-    ensures { λ r. ⌜ ChildRank (now (sets .entry)) (now (counts .entry)) v (now (s .entry)) j r ⌝ }
-{
-    if wide(v.arity) <= j {
-        return NONE;
-    }
-    rank_on(v, j + 1, s, sets, counts)
-}
-
-// The ranks of all children.
-fn put_ranks(v: Shape, s: &[u8; LABELS], sets: &[u32], counts: &[u8], out: &mut [u8], at: usize)
-    requires { ⌜ InPlace (now sets) (now counts) v (now s) × Rankable Table.Down (now sets) (now counts) v (now s) × (at + max-kids ≤ length (now out)) ⌝ }
-    ensures { λ _. ⌜ ChildRanks (now (sets .entry)) (now (counts .entry)) v (now (s .entry)) max-kids (now (out .entry)) at (now (out .exit)) ⌝ }
-{
-    let mut j = 0;
-    while j < CHILDREN {
-        out[at + j] = child_rank(v, j, s, sets, counts);
-        j += 1;
-    }
-}
-
-// The labels by first appearance.
-fn put_labels(s: &[u8; LABELS], out: &mut [u8], at: usize)
-    requires { ⌜ State (now s) × (at + labels ≤ length (now out)) ⌝ }
-    ensures { λ _. ⌜ now (out .exit) ≡ place at (tidied (now (s .entry))) (now (out .entry)) ⌝ }
-{
-    let mut t = *s;
-    tidy(&mut t);
-    copy_state(&t, out, at);
-}
-
-// An up entry: the rank of what the state shows on slot 0. The answer is the place behind it.
-fn put_up(
-    v: Shape,
-    s: &[u8; LABELS],
-    sets: &[u32],
-    counts: &[u8],
-    out: &mut [u8],
-    at: usize,
-) -> usize
-    requires { ⌜ InPlace (now sets) (now counts) v (now s) × Rankable Table.Up (now sets) (now counts) v (now s) × (at + entry-size Table.Up ≤ length (now out)) ⌝ }
-    ensures { λ r. ⌜ Laid (entry-size Table.Up) 1 (λ i e. Entry Table.Up (now (sets .entry)) (now (counts .entry)) v (now (s .entry)) e) (now (out .entry)) at (now (out .exit)) r ⌝ }
-{
-    out[at] = rank_on(v, 0, s, sets, counts);
-    at + 1
-}
-
-// A down entry: the labels, then the children's ranks.
-fn put_down(
-    v: Shape,
-    s: &[u8; LABELS],
-    sets: &[u32],
-    counts: &[u8],
-    out: &mut [u8],
-    at: usize,
-) -> usize
-    requires { ⌜ InPlace (now sets) (now counts) v (now s) × Rankable Table.Down (now sets) (now counts) v (now s) × (at + entry-size Table.Down ≤ length (now out)) ⌝ }
-    ensures { λ r. ⌜ Laid (entry-size Table.Down) 1 (λ i e. Entry Table.Down (now (sets .entry)) (now (counts .entry)) v (now (s .entry)) e) (now (out .entry)) at (now (out .exit)) r ⌝ }
-{
-    put_labels(s, out, at);
-    put_ranks(v, s, sets, counts, out, at + LABELS);
-    at + ENTRY
-}
-
-fn put_entry(
-    table: Table,
-    v: Shape,
-    s: &[u8; LABELS],
-    sets: &[u32],
-    counts: &[u8],
-    out: &mut [u8],
-    at: usize,
-) -> usize
-    requires { ⌜ InPlace (now sets) (now counts) v (now s) × Rankable table (now sets) (now counts) v (now s) × (at + entry-size table ≤ length (now out)) ⌝ }
-    ensures { λ r. ⌜ Laid (entry-size table) 1 (λ i e. Entry table (now (sets .entry)) (now (counts .entry)) v (now (s .entry)) e) (now (out .entry)) at (now (out .exit)) r ⌝ }
-{
-    match table {
-        Table::Up => put_up(v, s, sets, counts, out, at),
-        Table::Down => put_down(v, s, sets, counts, out, at),
-    }
-}
 
 // ---- the entries of a production
 
@@ -186,7 +66,9 @@ fn lay(
     at: usize,
 ) -> usize
     requires { ⌜ Asked table v slot (now sets) (now counts) (now ranked) (now sizes) (now s) (now out) at ⌝ }
-    ensures { λ r. ⌜ Laid (entry-size table) (choices (now (counts .entry)) (kinds-from v slot)) (Choices table v slot (now (sets .entry)) (now (counts .entry)) (now (ranked .entry)) (now (sizes .entry)) (kinds-from v slot) (now (s .entry))) (now (out .entry)) at (now (out .exit)) r ⌝ }
+    ensures { λ r. ⌜ Laid (entry-size table) (choices (now (counts .entry)) (kinds-from v slot))
+        (Choices table v slot (now (sets .entry)) (now (counts .entry)) (now (ranked .entry)) (now (sizes .entry)) (kinds-from v slot) (now (s .entry)))
+        (now (out .entry)) at (now (out .exit)) r ⌝ }
 {
     if v.arity < slot {
         return put_entry(table, v, s, ranked, sizes, out, at);
@@ -204,7 +86,16 @@ fn lay(
 }
 
 // The entries of all choices for the children, for each member of the left kind, in order; the answer is the place behind them.
-fn lay_down(v: Shape, s: &[u8; LABELS], sets: &[u32], counts: &[u8], feasible: &[u32], sizes: &[u8], out: &mut [u8], at: usize) -> usize
+fn lay_down(
+    v: Shape,
+    s: &[u8; LABELS],
+    sets: &[u32],
+    counts: &[u8],
+    feasible: &[u32],
+    sizes: &[u8],
+    out: &mut [u8],
+    at: usize,
+) -> usize
     requires { ⌜ AllAsked v (now sets) (now counts) (now feasible) (now sizes) (now s) (now out) at ⌝ }
     ensures { λ r. ⌜ Laid (entry-size Table.Down) (getD (now (sizes .entry)) (kind-of v 0) 0 * choices (now (counts .entry)) (kinds-from v 1))
         (AllChoices v (now (sets .entry)) (now (counts .entry)) (now (feasible .entry)) (now (sizes .entry)) (kinds-from v 1) (now (s .entry))) (now (out .entry)) at (now (out .exit)) r ⌝ }
@@ -215,7 +106,18 @@ fn lay_down(v: Shape, s: &[u8; LABELS], sets: &[u32], counts: &[u8], feasible: &
     let mut u = 0;
     while u < n {
         tie_member(v, 0, u, feasible, s, &mut t);
-        to = lay(Table::Down, v, 1, &t, sets, counts, feasible, sizes, out, to);
+        to = lay(
+            Table::Down,
+            v,
+            1,
+            &t,
+            sets,
+            counts,
+            feasible,
+            sizes,
+            out,
+            to,
+        );
         u += 1;
     }
     to
@@ -224,7 +126,15 @@ fn lay_down(v: Shape, s: &[u8; LABELS], sets: &[u32], counts: &[u8], feasible: &
 // ---- the up table
 
 // The entries of a production, from `at` on.
-fn up_run(book: &[u8], places: &[usize; PRODUCTIONS], p: usize, sets: &[u32], counts: &[u8], up: &mut [u8], at: usize) -> usize
+fn up_run(
+    book: &[u8],
+    places: &[usize; PRODUCTIONS],
+    p: usize,
+    sets: &[u32],
+    counts: &[u8],
+    up: &mut [u8],
+    at: usize,
+) -> usize
     requires { ⌜ Opened (now book) (now places) × (p < prods (now book)) × Exact (kinds (now book)) (Plausible (grammar (now book))) (now sets) (now counts)
         × (at + choices (now counts) (grammar (now book) .kids p) ≤ length (now up)) ⌝ }
     ensures { λ r. ⌜ Laid (entry-size Table.Up) (choices (now (counts .entry)) (grammar (now (book .entry)) .kids p))
@@ -238,7 +148,13 @@ fn up_run(book: &[u8], places: &[usize; PRODUCTIONS], p: usize, sets: &[u32], co
 }
 
 // Every up entry, one production behind another. What stands behind them stays as it came.
-pub fn fill_up(book: &[u8], places: &[usize; PRODUCTIONS], sets: &[u32], counts: &[u8], up: &mut [u8])
+pub fn fill_up(
+    book: &[u8],
+    places: &[usize; PRODUCTIONS],
+    sets: &[u32],
+    counts: &[u8],
+    up: &mut [u8],
+)
     requires { ⌜ Opened (now book) (now places) × Exact (kinds (now book)) (Plausible (grammar (now book))) (now sets) (now counts)
         × (up-entries (grammar (now book)) (now counts) ≤ length (now up)) ⌝ }
     ensures { λ _. ⌜ UpTable (grammar (now (book .entry))) (now (sets .entry)) (now (counts .entry)) (now (up .exit))
@@ -249,6 +165,58 @@ pub fn fill_up(book: &[u8], places: &[usize; PRODUCTIONS], sets: &[u32], counts:
     let mut p = 0;
     while p < n {
         at = up_run(book, places, p, sets, counts, up, at);
+        p += 1;
+    }
+}
+
+// ---- the down table
+
+// The entries of a production, from `at` on.
+fn down_run(
+    book: &[u8],
+    places: &[usize; PRODUCTIONS],
+    p: usize,
+    sets: &[u32],
+    counts: &[u8],
+    feasible: &[u32],
+    sizes: &[u8],
+    down: &mut [u8],
+    at: usize,
+) -> usize
+    requires { ⌜ Opened (now book) (now places) × (p < prods (now book)) × Exact (kinds (now book)) (Plausible (grammar (now book))) (now sets) (now counts)
+        × Exact (kinds (now book)) (Feasible (grammar (now book))) (now feasible) (now sizes)
+        × (at + getD (now sizes) (grammar (now book) .left p) 0 * choices (now counts) (grammar (now book) .kids p) * entry-bytes ≤ length (now down)) ⌝ }
+    ensures { λ r. ⌜ Laid entry-bytes (getD (now (sizes .entry)) (grammar (now (book .entry)) .left p) 0 * choices (now (counts .entry)) (grammar (now (book .entry)) .kids p))
+        (DownRun (grammar (now (book .entry))) (now (sets .entry)) (now (counts .entry)) (now (feasible .entry)) (now (sizes .entry)) p) (now (down .entry)) at (now (down .exit)) r ⌝ }
+{
+    let entry = places[p];
+    let v = shape_of(book, entry);
+    let mut s = [NONE; LABELS];
+    base(book, entry, &mut s);
+    lay_down(v, &s, sets, counts, feasible, sizes, down, at)
+}
+
+// Every down entry, one production behind another. What stands behind them stays as it came.
+pub fn fill_down(
+    book: &[u8],
+    places: &[usize; PRODUCTIONS],
+    sets: &[u32],
+    counts: &[u8],
+    feasible: &[u32],
+    sizes: &[u8],
+    down: &mut [u8],
+)
+    requires { ⌜ Opened (now book) (now places) × Exact (kinds (now book)) (Plausible (grammar (now book))) (now sets) (now counts)
+        × Exact (kinds (now book)) (Feasible (grammar (now book))) (now feasible) (now sizes)
+        × (down-entries (grammar (now book)) (now counts) (now sizes) * entry-bytes ≤ length (now down)) ⌝ }
+    ensures { λ _. ⌜ DownTable (grammar (now (book .entry))) (now (sets .entry)) (now (counts .entry)) (now (feasible .entry)) (now (sizes .entry)) (now (down .exit))
+        × Written (down-entries (grammar (now (book .entry))) (now (counts .entry)) (now (sizes .entry)) * entry-bytes) (now (down .entry)) (now (down .exit)) ⌝ }
+{
+    let n = span(book::productions(book));
+    let mut at = 0;
+    let mut p = 0;
+    while p < n {
+        at = down_run(book, places, p, sets, counts, feasible, sizes, down, at);
         p += 1;
     }
 }

@@ -1,5 +1,7 @@
 // The build: plausible and feasible sets, and the up and down tables over them. Also the blocks of a down entry as sets.
 mod blocks;
+mod downward;
+mod entry;
 mod fill;
 mod gather;
 mod labels;
@@ -20,11 +22,3 @@ pub enum Built {
     Accepted { up: u64, down: u64 },
     Refused { number: u8, place: u16 },
 }
-mod downward;
-mod downward;
-mod gather;
-mod labels;
-mod seen;
-mod sets;
-mod upward;
-mod visit;

@@ -9,18 +9,8 @@ ghost use Rattle.tables.specs.Promise.{up-entries, down-entries};
 ghost use Rattle.tables.specs.Fill.{Opened, Small, Countable, kinds-from};
 use super::shape::Shape;
 use super::shape::shape_of;
-
-fn wide(x: u8) -> usize
-    ensures { λ r. ⌜ (r ≡ x) × (r < 256) ⌝ }
-{
-    x as usize
-}
-
-fn span(x: u16) -> usize
-    ensures { λ r. ⌜ (r ≡ x) × (r < 65536) ⌝ }
-{
-    x as usize
-}
+use super::shape::span;
+use super::shape::wide;
 
 fn long(x: u8) -> u64
     ensures { λ r. ⌜ (r ≡ x) × (r < 256) ⌝ }

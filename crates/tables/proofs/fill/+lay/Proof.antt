@@ -1,7 +1,6 @@
 -- `lay` meets its contract, with the slots left as the number that falls at each call of itself.
 use Prim.Native.Nat.{ℕ, suc, _<_, _-_}
 use native.Mathlib.Omega.{arith}
-use borrow.Author.Needs.{needs}
 use Rattle.ranks.specs.Entries.{choices}
 use Rattle.tables.specs.Fill.{kinds-from, entry-size, Choices}
 use Rattle.tables.proofs.FillRuns.{Blocks}
@@ -12,7 +11,7 @@ use Rattle.tables.proofs.fill.lay.Reads as lay
 use Rattle.tables.proofs.fill.lay.Kinds as lay-kinds
 use Rattle.tables.proofs.fill.+lay.Lts-lay as lay-lts
 use Rattle.tables.proofs.fill.members_on.Reads as members-on-reads
-use Rattle.tables.proofs.fill.put_entry.Reads as put-entry-reads
+use Rattle.tables.proofs.entry.put_entry.Reads as put-entry-reads
 use Rattle.tables.proofs.fill.tie_member.Reads as tie-member-reads
 use Rattle.tables.proofs.fill.+lay.{statement}
 use Rattle.tables.proofs.fill.+lay.Tie.{close}

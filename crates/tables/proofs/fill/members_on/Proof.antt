@@ -3,28 +3,19 @@ use Rattle.tables.proofs.FillChoices.{slot-kind, slot-count}
 use borrow.Author.Needs.{needs}
 use Rattle.tables.proofs.fill.members_on.Statement.{statement}
 use Rattle.tables.proofs.fill.members_on.Tie as tie
-use Rattle.tables.proofs.fill.members_on.Reads as reads
-use Rattle.tables.proofs.fill.members_on.Lts as lts
-use Rattle.tables.proofs.fill.wide.Reads as wide-reads
-use Rattle.tables.proofs.sets.count.Reads as count-reads
 
--- src/fill.rt:123:32
 wide-requires : tie.Need-wide-requires
 wide-requires c κs = search needs
 
--- src/fill.rt:123:24
 element-copy-out-wide : tie.Need-element-copy-out-wide
 element-copy-out-wide c = search needs
 
--- src/fill.rt:123:19
 wide-requires-2 : tie.Need-wide-requires-2
 wide-requires-2 c κs = search needs
 
--- src/fill.rt:123:5
 count-requires : tie.Need-count-requires
 count-requires c κs = rw (slot-kind (c .before .before .before .before .args .t1) (c .before .before .wide .ensures .0) (c .wide2 .ensures .0)) (c .before .before .before .before .pre .2)
 
--- src/fill.rt:119:1
 returns : tie.Need-returns
 returns c = slot-count (c .before .before .before .before .before .args .t1) (c .before .before .before .wide .ensures .0) (c .before .wide2 .ensures .0) (c .before .before .before .before .before .args .counts .now) (c .count .ensures .0)
 

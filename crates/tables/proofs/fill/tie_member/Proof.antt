@@ -7,51 +7,37 @@ use Rattle.tables.proofs.FillChoices.{slot-there, slot-tied}
 use borrow.Author.Needs.{needs}
 use Rattle.tables.proofs.fill.tie_member.Statement.{statement}
 use Rattle.tables.proofs.fill.tie_member.Tie as tie
-use Rattle.tables.proofs.fill.tie_member.Reads as reads
-use Rattle.tables.proofs.fill.tie_member.Lts as lts
-use Rattle.tables.proofs.fill.wide.Reads as wide-reads
-use Rattle.tables.proofs.labels.tie.Reads as tie-reads
 
--- src/fill.rt:131:9
 wide-requires : tie.Need-wide-requires
 wide-requires c κs = search needs
 
--- src/fill.rt:133:18
 element-copy-out-tie : tie.Need-element-copy-out-tie
 element-copy-out-tie c = search needs
 
--- src/fill.rt:133:41
 element-copy-out-wide : tie.Need-element-copy-out-wide
 element-copy-out-wide c = search needs
 
--- src/fill.rt:133:36
 wide-requires-2 : tie.Need-wide-requires-2
 wide-requires-2 c κs = search needs
 
--- src/fill.rt:133:36
 mul-tie : tie.Need-mul-tie
 mul-tie c = search needs
 
--- src/fill.rt:133:36
 add-tie : tie.Need-add-tie
 add-tie c = search needs
 
--- src/fill.rt:133:31
 mul-tie-2 : tie.Need-mul-tie-2
 mul-tie-2 c = search needs
 
--- src/fill.rt:133:31
 shared-slice-read-tie : tie.Need-shared-slice-read-tie
 shared-slice-read-tie c = slot-there (c .before .before .before .before .before .before .before .before .args .t1) (c .before .before .before .before .before .before .wide .ensures .0) (c .before .wide2 .ensures .0) (c .before .before .before .before .before .before .before .before .args .r) (c .before .before .before .before .before .before .before .before .pre .3)
 
--- src/fill.rt:133:5
 tie-requires : tie.Need-tie-requires
 tie-requires c κs =
     let o = c .before .before .before .before .before .before .before .before in
     let w : getD (o .args .t1 .widths) (c .before .before .before .before .before .before .wide .result) 0 ≤ max-settings = rw (c .before .before .before .before .before .before .wide .ensures .0) (o .pre .0 .widths (o .args .slot) (o .pre .2)) in
     (o .pre .1 .state .long, omega (arith, o .pre .0 .arity), w)
 
--- src/fill.rt:127:1
 returns : tie.Need-returns
 returns c =
     let a = c .before .before .before .before .before .before .before .before .before .args in

@@ -4,10 +4,6 @@ use native.Mathlib.Omega.{arith}
 use Rattle.tables.proofs.EntryCounts.{Multiplying, none-chosen, count-there, choose-fits, choose-turn, choose-done}
 use Rattle.tables.proofs.totals.choices.Statement.{statement}
 use Rattle.tables.proofs.totals.choices.Tie as tie
-use Rattle.tables.proofs.totals.choices.Reads as reads
-use Rattle.tables.proofs.totals.choices.Lts as lts
-use Rattle.tables.proofs.totals.count.Reads as count-reads
-use Rattle.tables.proofs.totals.wide.Reads as wide-reads
 
 abbrev Inv-loop : tie.InvT-loop
 Inv-loop counts v product₀ t₀ product t = Multiplying v counts product t
@@ -15,27 +11,21 @@ Inv-loop counts v product₀ t₀ product t = Multiplying v counts product t
 abbrev μ-loop : tie.MeasureT-loop
 μ-loop counts v product₀ t₀ product t = t
 
--- src/totals.rt:45:9
 wide-requires : tie.Need-wide-requires Inv-loop μ-loop
 wide-requires c κs = search needs
 
--- src/totals.rt:46:5
 loop-holds : tie.Need-loop-holds Inv-loop μ-loop
 loop-holds c = none-chosen (c .wide .ensures .0)
 
--- src/totals.rt:47:38
 element-copy-out-wide : tie.Need-element-copy-out-wide Inv-loop μ-loop
 element-copy-out-wide c = search needs
 
--- src/totals.rt:47:33
 wide-requires-2 : tie.Need-wide-requires-2 Inv-loop μ-loop
 wide-requires-2 c κs = search needs
 
--- src/totals.rt:47:19
 count-requires : tie.Need-count-requires Inv-loop μ-loop
 count-requires c κs = count-there (c .before .before .before .before .before .before .pre) (c .before .before .before .loop .t) (c .before .before .before .loop .inv .within) (c .wide2 .ensures .0)
 
--- src/totals.rt:47:19
 mul-product : tie.Need-mul-product Inv-loop μ-loop
 mul-product c =
     omega (
@@ -44,19 +34,15 @@ mul-product c =
           (c .before .before .before .before .before .before .before .pre) (c .before .before .before .loop-test .taken),
     )
 
--- src/totals.rt:48:9
 sub-t : tie.Need-sub-t Inv-loop μ-loop
 sub-t c = search needs
 
--- src/totals.rt:46:5
 loop-less : tie.Need-loop-less Inv-loop μ-loop
 loop-less c = search needs
 
--- src/totals.rt:46:5
 loop-again : tie.Need-loop-again Inv-loop μ-loop
 loop-again c = choose-turn (c .before .before .before .before .loop .inv) (c .before .wide2 .ensures .0) (c .count .ensures .0) (c .before .before .before .loop-test .taken)
 
--- src/totals.rt:40:1
 returns : tie.Need-returns Inv-loop μ-loop
 returns c = choose-done (c .before .loop .inv) (c .before .before .before .before .pre) (omega arith)
 

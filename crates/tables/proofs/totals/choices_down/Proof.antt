@@ -4,33 +4,22 @@ use Rattle.tables.proofs.EntryCounts.{count-there, choose-down}
 use borrow.Author.Needs.{needs}
 use Rattle.tables.proofs.totals.choices_down.Statement.{statement}
 use Rattle.tables.proofs.totals.choices_down.Tie as tie
-use Rattle.tables.proofs.totals.choices_down.Reads as reads
-use Rattle.tables.proofs.totals.choices_down.Lts as lts
-use Rattle.tables.proofs.totals.choices.Reads as choices-reads
-use Rattle.tables.proofs.totals.count.Reads as count-reads
-use Rattle.tables.proofs.totals.wide.Reads as wide-reads
 
--- src/totals.rt:73:26
 element-copy-out-wide : tie.Need-element-copy-out-wide
 element-copy-out-wide c = search needs
 
--- src/totals.rt:73:21
 wide-requires : tie.Need-wide-requires
 wide-requires c κs = search needs
 
--- src/totals.rt:73:5
 count-requires : tie.Need-count-requires
 count-requires c κs = count-there (c .before .before .before .before .pre .1) 0 (omega arith) (c .wide .ensures .0)
 
--- src/totals.rt:73:41
 choices-requires : tie.Need-choices-requires
 choices-requires c κs = search needs
 
--- src/totals.rt:73:5
 mul-result : tie.Need-mul-result
 mul-result c = omega (arith, choose-down (c .before .before .before .before .before .before .args .counts .now) (c .before .before .before .before .before .before .pre .1) (c .before .before .wide .ensures .0) (c .before .count .ensures .0) (c .choices .ensures) .1)
 
--- src/totals.rt:69:1
 returns : tie.Need-returns
 returns c = choose-down (c .before .before .before .before .before .before .args .counts .now) (c .before .before .before .before .before .before .pre .1) (c .before .before .wide .ensures .0) (c .before .count .ensures .0) (c .choices .ensures)
 

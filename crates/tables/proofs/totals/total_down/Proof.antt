@@ -8,12 +8,6 @@ use Rattle.ranks.specs.Entries.{down-start}
 use Rattle.tables.proofs.EntryCounts.{Summing, sum-begun, sum-done, opened-countable, down-fits, down-turn, down-few}
 use Rattle.tables.proofs.totals.total_down.Statement.{statement}
 use Rattle.tables.proofs.totals.total_down.Tie as tie
-use Rattle.tables.proofs.totals.total_down.Reads as reads
-use Rattle.tables.proofs.totals.total_down.Lts as lts
-use Rattle.book.proofs.productions.Reads as productions-reads
-use Rattle.tables.proofs.shape.shape_of.Reads as shape-of-reads
-use Rattle.tables.proofs.totals.choices_down.Reads as choices-down-reads
-use Rattle.tables.proofs.totals.span.Reads as span-reads
 
 abbrev Inv-loop : tie.InvT-loop
 Inv-loop book places counts feasible n total₀ p₀ total p = Summing book (down-start (grammar book) counts feasible) n total p
@@ -21,57 +15,45 @@ Inv-loop book places counts feasible n total₀ p₀ total p = Summing book (dow
 abbrev μ-loop : tie.MeasureT-loop
 μ-loop book places counts feasible n total₀ p₀ total p = n - p
 
--- src/totals.rt:81:18
 productions-requires : tie.Need-productions-requires Inv-loop μ-loop
 productions-requires c κs = search needs
 
--- src/totals.rt:81:9
 span-requires : tie.Need-span-requires Inv-loop μ-loop
 span-requires c κs = search needs
 
--- src/totals.rt:84:5
 loop-holds : tie.Need-loop-holds Inv-loop μ-loop
 unfolding down-start
 loop-holds c =
     let a = c .before .before .before .before .before .args in
     sum-begun (down-start (grammar (a .book .now)) (a .counts .now) (a .feasible .now)) (c .before .before .before .before .before .pre .0) refl (c .span .ensures .0) (c .before .productions .ensures)
 
--- src/totals.rt:85:46
 mul-shape-of : tie.Need-mul-shape-of Inv-loop μ-loop
 mul-shape-of c = search needs
 
--- src/totals.rt:85:46
 element-copy-out-shape-of : tie.Need-element-copy-out-shape-of Inv-loop μ-loop
 element-copy-out-shape-of c = search needs
 
--- src/totals.rt:85:31
 shape-of-requires : tie.Need-shape-of-requires Inv-loop μ-loop
 shape-of-requires c κs = search needs
 
--- src/totals.rt:85:18
 choices-down-requires : tie.Need-choices-down-requires Inv-loop μ-loop
 choices-down-requires c κs =
     let o = c .before .before .before .before .before .before .before .before .before .pre in
     let l : c .before .before .before .loop .p < prods (c .before .before .before .before .before .before .before .before .before .args .book .now) = omega (arith, c .before .before .before .loop .inv .all) in
     (opened-countable (o .0) _ l (c .shape-of .ensures) (o .1), opened-countable (o .0) _ l (c .shape-of .ensures) (o .2))
 
--- src/totals.rt:85:9
 add-total : tie.Need-add-total Inv-loop μ-loop
 add-total c = omega (arith, down-fits (c .before .before .before .before .before .before .before .before .before .before .pre .0) (c .before .before .before .before .before .before .before .before .before .before .pre .1) (c .before .before .before .loop-test .taken) (c .before .shape-of .ensures) (c .before .before .before .before .before .before .before .before .before .before .pre .2) (c .before .before .before .before .loop .inv) (c .choices-down .ensures .0))
 
--- src/totals.rt:86:9
 add-p : tie.Need-add-p Inv-loop μ-loop
 add-p c = search needs
 
--- src/totals.rt:84:5
 loop-less : tie.Need-loop-less Inv-loop μ-loop
 loop-less c = search needs
 
--- src/totals.rt:84:5
 loop-again : tie.Need-loop-again Inv-loop μ-loop
 loop-again c = down-turn (c .before .before .before .before .before .before .before .before .before .before .pre .0) (c .before .before .before .before .before .before .before .before .before .before .pre .1) (c .before .before .before .loop-test .taken) (c .before .shape-of .ensures) (c .before .before .before .before .before .before .before .before .before .before .pre .2) (c .before .before .before .before .loop .inv) (c .choices-down .ensures .0)
 
--- src/totals.rt:77:1
 returns : tie.Need-returns Inv-loop μ-loop
 returns c =
     let o = c .before .before .before .before .before .before .before .pre in

@@ -1,50 +1,38 @@
 -- An entry of either table. Assumes nothing.
 use Rattle.tables.proofs.FillEntry.{told-rankable, told-room, told-laid}
 use borrow.Author.Needs.{needs}
-use Rattle.tables.proofs.fill.put_entry.Statement.{statement}
-use Rattle.tables.proofs.fill.put_entry.Tie as tie
-use Rattle.tables.proofs.fill.put_entry.Reads as reads
-use Rattle.tables.proofs.fill.put_entry.Lts as lts
-use Rattle.tables.proofs.fill.put_down.Reads as put-down-reads
-use Rattle.tables.proofs.fill.put_up.Reads as put-up-reads
+use Rattle.tables.proofs.entry.put_entry.Statement.{statement}
+use Rattle.tables.proofs.entry.put_entry.Tie as tie
 
--- src/fill.rt:112:49
 enum-told : tie.Need-enum-told
 enum-told c = search needs
 
--- src/fill.rt:112:22
 put-up-requires : tie.Need-put-up-requires
 put-up-requires c κs =
     let o = c .before .before .before .before .before .before in
     let a = o .args in
     (o .pre .0, told-rankable (c .before .enum-told .given .1) (a .sets .now) (a .counts .now) (a .v) (a .s .now) (o .pre .1), told-room (c .before .enum-told .given .1) (a .at) (o .pre .2))
 
--- src/fill.rt:113:53
 enum-told-2 : tie.Need-enum-told-2
 enum-told-2 c = search needs
 
--- src/fill.rt:113:24
 put-down-requires : tie.Need-put-down-requires
 put-down-requires c κs =
     let o = c .before .before .before .before .before .before in
     let a = o .args in
     (o .pre .0, told-rankable (c .before .enum-told2 .given .1) (a .sets .now) (a .counts .now) (a .v) (a .s .now) (o .pre .1), told-room (c .before .enum-told2 .given .1) (a .at) (o .pre .2))
 
--- src/fill.rt:107:1
 same-length : tie.Need-same-length
 same-length c = search needs
 
--- src/fill.rt:107:1
 returns : tie.Need-returns
 returns c =
     let a = c .before .before .before .before .before .before .before .before .before .args in
     told-laid (c .before .before .before .before .enum-told .given .1) (a .sets .now) (a .counts .now) (a .v) (a .s .now) (c .before .before .put-up .ensures)
 
--- src/fill.rt:107:1
 same-length-2 : tie.Need-same-length-2
 same-length-2 c = search needs
 
--- src/fill.rt:107:1
 returns-2 : tie.Need-returns-2
 returns-2 c =
     let a = c .before .before .before .before .before .before .before .before .before .args in

@@ -5,11 +5,8 @@ use native.Mathlib.Omega.{arith}
 use Rattle.chains.specs.Limits.{max-kids}
 use Rattle.tables.specs.Fill.{ChildRanks}
 use Rattle.tables.proofs.FillEntry.{no-ranks, more-ranks, ranks-done}
-use Rattle.tables.proofs.fill.put_ranks.Statement.{statement}
-use Rattle.tables.proofs.fill.put_ranks.Tie as tie
-use Rattle.tables.proofs.fill.put_ranks.Reads as reads
-use Rattle.tables.proofs.fill.put_ranks.Lts as lts
-use Rattle.tables.proofs.fill.child_rank.Reads as child-rank-reads
+use Rattle.tables.proofs.entry.put_ranks.Statement.{statement}
+use Rattle.tables.proofs.entry.put_ranks.Tie as tie
 
 abbrev Inv-loop : tie.InvT-loop
 Inv-loop v s sets counts out₀ at j₀ out j = (j ≤ max-kids) × ChildRanks sets counts v s j out₀ at out
@@ -17,39 +14,30 @@ Inv-loop v s sets counts out₀ at j₀ out j = (j ≤ max-kids) × ChildRanks s
 abbrev μ-loop : tie.MeasureT-loop
 μ-loop v s sets counts out₀ at j₀ out j = max-kids - j
 
--- src/fill.rt:72:5
 loop-holds : tie.Need-loop-holds Inv-loop μ-loop
 loop-holds c = (omega arith, no-ranks _ _ _ _ _ _)
 
--- src/fill.rt:73:23
 child-rank-requires : tie.Need-child-rank-requires Inv-loop μ-loop
 child-rank-requires c κs = (c .before .before .before .before .before .pre .0, λ l. c .before .before .before .before .before .pre .1 _ l)
 
--- src/fill.rt:73:13
 add-out : tie.Need-add-out Inv-loop μ-loop
 add-out c = search needs
 
--- src/fill.rt:73:9
 slice-write-out : tie.Need-slice-write-out Inv-loop μ-loop
 slice-write-out c = omega (arith, c .before .before .loop .inv .1 .long)
 
--- src/fill.rt:74:9
 add-j : tie.Need-add-j Inv-loop μ-loop
 add-j c = search needs
 
--- src/fill.rt:72:5
 loop-less : tie.Need-loop-less Inv-loop μ-loop
 loop-less c = search needs
 
--- src/fill.rt:72:5
 loop-again : tie.Need-loop-again Inv-loop μ-loop
 loop-again c = (omega arith, more-ranks (c .before .before .loop .inv .1) (omega arith) (c .child-rank .ensures))
 
--- src/fill.rt:67:1
 same-length : tie.Need-same-length Inv-loop μ-loop
 same-length c = c .before .loop .inv .1 .long
 
--- src/fill.rt:67:1
 returns : tie.Need-returns Inv-loop μ-loop
 returns c = ranks-done (c .before .loop .inv .1) (omega arith)
 

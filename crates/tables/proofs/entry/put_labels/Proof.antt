@@ -4,26 +4,18 @@ use lib.ListN.{length}
 use Rattle.tables.proofs.StateTidy.{tidy-state}
 use Rattle.tables.proofs.FillEntry.{labels-put}
 use borrow.Author.Needs.{needs}
-use Rattle.tables.proofs.fill.put_labels.Statement.{statement}
-use Rattle.tables.proofs.fill.put_labels.Tie as tie
-use Rattle.tables.proofs.fill.put_labels.Reads as reads
-use Rattle.tables.proofs.fill.put_labels.Lts as lts
-use Rattle.tables.proofs.labels.copy_state.Reads as copy-state-reads
-use Rattle.tables.proofs.labels.tidy.Reads as tidy-reads
+use Rattle.tables.proofs.entry.put_labels.Statement.{statement}
+use Rattle.tables.proofs.entry.put_labels.Tie as tie
 
--- src/fill.rt:84:5
 tidy-requires : tie.Need-tidy-requires
 tidy-requires c κs = search needs
 
--- src/fill.rt:85:5
 copy-state-requires : tie.Need-copy-state-requires
 copy-state-requires c κs = (ap length (c .before .before .tidy .ensures) ∙ tidy-state (c .before .before .before .before .before .before .pre .0) .long, c .before .before .before .before .before .before .pre .1)
 
--- src/fill.rt:79:1
 same-length : tie.Need-same-length
 same-length c = search needs
 
--- src/fill.rt:79:1
 returns : tie.Need-returns
 returns c =
     let a = c .before .before .before .before .before .before .before .before .before .args in

@@ -1,0 +1,122 @@
+// One entry of the up or the down table, written from a state in which everything is tied.
+ghost use mathlib.Core.Path.{_≡_};
+ghost use Prim.Native.Nat.{suc, _+_, _<_, _≤_};
+ghost use lib.ListN.{length};
+ghost use Rattle.lists.specs.Part.{place};
+ghost use Rattle.chains.specs.Limits.{max-kids};
+ghost use Rattle.ranks.specs.Entries.{labels};
+ghost use Rattle.tables.specs.State.{State, tidied};
+ghost use Rattle.tables.specs.Fill.{InPlace, Listed, RankOn, ChildRank, ChildRanks, Rankable, Entry, entry-size, Laid};
+use super::labels::LABELS;
+use super::labels::NONE;
+use super::labels::copy_state;
+use super::labels::tidy;
+use super::labels::view;
+use super::sets::count;
+use super::sets::rank;
+use super::shape::Shape;
+use super::shape::wide;
+use ranks::ENTRY;
+
+// Which table an entry belongs to.
+pub enum Table {
+    Up,
+    Down,
+}
+
+const CHILDREN: usize = book::limits::MAX_CHILDREN as usize;
+
+// The rank of the code that the state shows on a slot.
+fn rank_on(v: Shape, slot: usize, s: &[u8; LABELS], sets: &[u32], counts: &[u8]) -> u8
+    requires { ⌜ InPlace (now sets) (now counts) v (now s) × (slot ≤ v .arity) × Listed (now sets) (now counts) v slot (now s) ⌝ }
+    ensures { λ r. ⌜ RankOn (now (sets .entry)) (now (counts .entry)) v slot (now (s .entry)) r ⌝ }
+{
+    let kind = wide(v.kinds[slot]);
+    let code = view(s, slot as u8, v.widths[slot]);
+    rank(sets, kind, count(counts, kind), code) as u8
+}
+
+// The rank of a child, from 0 on; NONE where there is no such child.
+fn child_rank(v: Shape, j: usize, s: &[u8; LABELS], sets: &[u32], counts: &[u8]) -> u8
+    requires { ⌜ InPlace (now sets) (now counts) v (now s) × (j < v .arity → Listed (now sets) (now counts) v (suc j) (now s)) ⌝ }
+    ensures { λ r. ⌜ ChildRank (now (sets .entry)) (now (counts .entry)) v (now (s .entry)) j r ⌝ }
+{
+    if wide(v.arity) <= j {
+        return NONE;
+    }
+    rank_on(v, j + 1, s, sets, counts)
+}
+
+// The ranks of all children.
+fn put_ranks(v: Shape, s: &[u8; LABELS], sets: &[u32], counts: &[u8], out: &mut [u8], at: usize)
+    requires { ⌜ InPlace (now sets) (now counts) v (now s) × Rankable Table.Down (now sets) (now counts) v (now s) × (at + max-kids ≤ length (now out)) ⌝ }
+    ensures { λ _. ⌜ ChildRanks (now (sets .entry)) (now (counts .entry)) v (now (s .entry)) max-kids (now (out .entry)) at (now (out .exit)) ⌝ }
+{
+    let mut j = 0;
+    while j < CHILDREN {
+        out[at + j] = child_rank(v, j, s, sets, counts);
+        j += 1;
+    }
+}
+
+// The labels by first appearance.
+fn put_labels(s: &[u8; LABELS], out: &mut [u8], at: usize)
+    requires { ⌜ State (now s) × (at + labels ≤ length (now out)) ⌝ }
+    ensures { λ _. ⌜ now (out .exit) ≡ place at (tidied (now (s .entry))) (now (out .entry)) ⌝ }
+{
+    let mut t = *s;
+    tidy(&mut t);
+    copy_state(&t, out, at);
+}
+
+// An up entry: the rank of what the state shows on slot 0. The answer is the place behind it.
+fn put_up(
+    v: Shape,
+    s: &[u8; LABELS],
+    sets: &[u32],
+    counts: &[u8],
+    out: &mut [u8],
+    at: usize,
+) -> usize
+    requires { ⌜ InPlace (now sets) (now counts) v (now s) × Rankable Table.Up (now sets) (now counts) v (now s) × (at + entry-size Table.Up ≤ length (now out)) ⌝ }
+    ensures { λ r. ⌜ Laid (entry-size Table.Up) 1 (λ i e. Entry Table.Up (now (sets .entry)) (now (counts .entry)) v (now (s .entry)) e) (now (out .entry)) at (now (out .exit)) r ⌝ }
+{
+    out[at] = rank_on(v, 0, s, sets, counts);
+    at + 1
+}
+
+// A down entry: the labels, then the children's ranks.
+fn put_down(
+    v: Shape,
+    s: &[u8; LABELS],
+    sets: &[u32],
+    counts: &[u8],
+    out: &mut [u8],
+    at: usize,
+) -> usize
+    requires { ⌜ InPlace (now sets) (now counts) v (now s) × Rankable Table.Down (now sets) (now counts) v (now s) × (at + entry-size Table.Down ≤ length (now out)) ⌝ }
+    ensures { λ r. ⌜ Laid (entry-size Table.Down) 1 (λ i e. Entry Table.Down (now (sets .entry)) (now (counts .entry)) v (now (s .entry)) e) (now (out .entry)) at (now (out .exit)) r ⌝ }
+{
+    put_labels(s, out, at);
+    put_ranks(v, s, sets, counts, out, at + LABELS);
+    at + ENTRY
+}
+
+// An entry of either table; the answer is the place behind it.
+pub fn put_entry(
+    table: Table,
+    v: Shape,
+    s: &[u8; LABELS],
+    sets: &[u32],
+    counts: &[u8],
+    out: &mut [u8],
+    at: usize,
+) -> usize
+    requires { ⌜ InPlace (now sets) (now counts) v (now s) × Rankable table (now sets) (now counts) v (now s) × (at + entry-size table ≤ length (now out)) ⌝ }
+    ensures { λ r. ⌜ Laid (entry-size table) 1 (λ i e. Entry table (now (sets .entry)) (now (counts .entry)) v (now (s .entry)) e) (now (out .entry)) at (now (out .exit)) r ⌝ }
+{
+    match table {
+        Table::Up => put_up(v, s, sets, counts, out, at),
+        Table::Down => put_down(v, s, sets, counts, out, at),
+    }
+}
