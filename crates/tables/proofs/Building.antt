@@ -1,7 +1,7 @@
 -- From the check of the book to the end of a build.
 use mathlib.Core.Path.{_≡_, refl, sym, ap, _∙_, subst}
 use mathlib.Core.Logic.{_⊎_, inl, inr}
-use mathlib.Core.Bool.{true, false}
+use mathlib.Core.Bool.{Bool, true, false}
 use mathlib.Core.List.{List, [], _∷_}
 use Prim.Native.Nat.{ℕ, _*_, _≤_, _<_}
 use native.Mathlib.Omega.{arith}
@@ -12,12 +12,15 @@ use Rattle.lists.specs.Pick.{pick}
 use Rattle.lists.specs.Refusals.{Said, accepted, refused, Sooner, First}
 use Rattle.book.specs.Format.{kinds, prods, grammar}
 use Rattle.book.specs.Refusals as rows
+use Rattle.book.specs.declared.Checked.{Checked}
+use Rattle.book.specs.declared.Checked.the-variants as checks
+use Rattle.book.specs.Answer as checked
 use Rattle.book.proofs.Accepted.{accepted-book}
 use Rattle.tables.specs.declared.Built.{Built}
 use Rattle.tables.specs.declared.Built.the-variants.{Accepted, Refused}
 use Rattle.tables.specs.Promise.{Lent, Applies, of-book, short-slice, over-plausible, over-feasible, short-up, short-down, wiped, left-by, BuildDue}
 use Rattle.tables.specs.Answer.{said, lent}
-use Rattle.tables.specs.Making.{TooShort, Roomy, Measured, Lacking, Ready, Worked}
+use Rattle.tables.specs.Making.{TooShort, Roomy, Measured, Lacking, Ready, WorkDue}
 use Rattle.tables.proofs.Exits.{FirstDue, refuse-room}
 use Rattle.tables.proofs.Promise.{build-once}
 
@@ -106,5 +109,25 @@ module _ {b : List ℕ} {x y : ℕ} (due : rows.BookDue b (accepted (x ∷ y ∷
 
 -- ── the build goes on ──
 -- THEOREM: a refusal after the sets are begun leaves all memory wiped
-pub refused-wiped : (b : List ℕ) (m m′ m″ : Lent) (n p : ℕ) → Worked b m (refused n p) m′ → wiped m′ ≡ wiped m → m″ ≡ wiped m′ → BuildDue b m (refused n p) m″
+pub refused-wiped : (b : List ℕ) (m m′ m″ : Lent) (n p : ℕ) → WorkDue b m (refused n p) m′ → wiped m′ ≡ wiped m → m″ ≡ wiped m′ → BuildDue b m (refused n p) m″
 refused-wiped b m m′ m″ n p (f, l) e e′ = (f, e′ ∙ e ∙ left-late n m l)
+
+-- ── the answer of the check, taken apart ──
+module _ (b : List ℕ) (m : Lent) (r : Checked) (due : rows.BookDue b (checked.said r)) where
+  pub built-of-book : (n p : ℕ) → r ≡ checks.Refused n p → BuildDue b m (said (Refused n p)) m
+  built-of-book n p e = refused-book b m n p (rw e at due)
+
+  -- the kinds k, measured against the lent memory
+  module _ (x y : ℕ) (e : r ≡ checks.Accepted x y) (k : ℕ) (same : k ≡ x) (short : Bool)
+      (size : Measured k (length (m .plausible)) (length (m .plausible-counts)) (length (m .feasible)) (length (m .feasible-counts)) short) where
+    accepted-due : rows.BookDue b (accepted (x ∷ y ∷ []))
+    accepted-due = rw e at due
+
+    sized : Measured (kinds b) (length (m .plausible)) (length (m .plausible-counts)) (length (m .feasible)) (length (m .feasible-counts)) short
+    sized = rw (same ∙ kinds-told accepted-due) at size
+
+    pub built-short : (a : Said) → short ≡ true → a ≡ refused 9 0 → BuildDue b m a m
+    built-short a h q = rw q (refused-room accepted-due m (sized .short h))
+
+    pub built-ready : short ≡ false → Ready b m
+    built-ready h = ready-book accepted-due m (sized .roomy h)

@@ -14,7 +14,7 @@ use Rattle.book.specs.Refusals as rows
 use Rattle.ranks.specs.Entries.{entry-bytes}
 use Rattle.tables.specs.Sets.{Over, Holds}
 use Rattle.tables.specs.Promise.{Lent, up-entries, down-entries, Counted, Applies, of-book, short-slice, over-plausible, over-feasible, short-up, short-down, Built}
-use Rattle.tables.specs.Making.{TooShort, Roomy, Lacking, Ready, Exceeds, up-exceeds, down-exceeds, Tables, Tabled, Worked}
+use Rattle.tables.specs.Making.{TooShort, Roomy, Lacking, Ready, Exceeds, up-exceeds, down-exceeds, Tables, TablesDue, WorkDue}
 use Rattle.tables.specs.Answer.{lent}
 use Rattle.tables.proofs.Holds.{holds-counted, over-never, counted-once}
 use Rattle.tables.proofs.Entries.{up-entries-same, down-entries-same}
@@ -173,6 +173,6 @@ module _ {b : List ℕ} {m : Lent} (ready : Ready b m) where
         }
 
       -- THEOREM: what the tables come to, the whole comes to
-      pub tables-worked : (u w : List ℕ) (a : Said) → Tabled (grammar b) s c f d (m .up) (m .down) a u w → Worked b m a (lent s c f d u w)
+      pub tables-worked : (u w : List ℕ) (a : Said) → TablesDue (grammar b) s c f d (m .up) (m .down) a u w → WorkDue b m a (lent s c f d u w)
       tables-worked u w (accepted counts) t = (none-refuse t, all-built t)
       tables-worked u w (refused n place) e = refuse-tables e

@@ -38,3 +38,4 @@ pub mod DownwardSweep
 pub mod FillUp
 pub mod FillDown
 pub mod Seeding
+pub mod BuildSteps

@@ -66,11 +66,17 @@ pub record Tables (G : Grammar) (s c f d u w u′ w′ counts : List ℕ) : Type
   pub down : DownTable G s c f d w′
   pub down-rest : Written (down-entries G c d * entry-bytes) w w′
 
-abbrev pub Tabled : (G : Grammar) (s c f d up down : List ℕ) → Said → (up′ down′ : List ℕ) → Type 0
-Tabled G s c f d up down (accepted counts) up′ down′ = Tables G s c f d up down up′ down′ counts
-Tabled G s c f d up down (refused n p) up′ down′ = Exceeds G c d (length up) (length down) n p
+abbrev pub TablesDue : (G : Grammar) (s c f d u w : List ℕ) → Said → (u′ w′ : List ℕ) → Type 0
+TablesDue G s c f d u w (accepted counts) u′ w′ = Tables G s c f d u w u′ w′ counts
+TablesDue G s c f d u w (refused n p) u′ w′ = Exceeds G c d (length u) (length w) n p
+
+pub record Tabled (G : Grammar) (s c f d u w : List ℕ) (a : Said) (u′ w′ : List ℕ) : Type 0 where
+  pub due : TablesDue G s c f d u w a u′ w′
 
 -- ── the whole, before a refusal's memory is wiped ──
-abbrev pub Worked : List ℕ → Lent → Said → Lent → Type 0
-Worked b m (accepted counts) m′ = ((n p : ℕ) → Applies b m n p → ⊥) × Built (grammar b) m m′ counts
-Worked b m (refused n p) m′ = First rows.turn (λ f. Applies b m (f .0) (f .1)) (n, p) × (9 < n)
+abbrev pub WorkDue : List ℕ → Lent → Said → Lent → Type 0
+WorkDue b m (accepted counts) m′ = ((n p : ℕ) → Applies b m n p → ⊥) × Built (grammar b) m m′ counts
+WorkDue b m (refused n p) m′ = First rows.turn (λ f. Applies b m (f .0) (f .1)) (n, p) × (9 < n)
+
+pub record Worked (b : List ℕ) (m : Lent) (a : Said) (m′ : Lent) : Type 0 where
+  pub due : WorkDue b m a m′
