@@ -72,15 +72,17 @@ module _ (G : Grammar) (s c f d up down up′ down′ : List ℕ) where
   pub tabled : (u w : ℕ) → u ≡ up-entries G c → w ≡ down-entries G c d → up-entries G c ≤ length up → down-entries G c d * entry-bytes ≤ length down
       → UpTable G s c up′ × Written (up-entries G c) up up′ → DownTable G s c f d down′ × Written (down-entries G c d * entry-bytes) down down′
       → Tabled G s c f d up down (accepted (u ∷ w ∷ [])) up′ down′
-  tabled u w e e′ fits fits′ t t′ = record { due = record {
-    counted = rw (e, e′);
-    up-fits = fits;
-    down-fits = fits′;
-    up = t .0;
-    up-rest = t .1;
-    down = t′ .0;
-    down-rest = t′ .1;
-  } }
+  tabled u w e e′ fits fits′ t t′ = record {
+    due = record {
+      counted = rw (e, e′);
+      up-fits = fits;
+      down-fits = fits′;
+      up = t .0;
+      up-rest = t .1;
+      down = t′ .0;
+      down-rest = t′ .1;
+    };
+  }
 
 -- ── the whole ──
 module _ (b : List ℕ) (m m′ : Lent) (r : Built) (worked : Worked b m (said r) m′) where

@@ -40,6 +40,7 @@ pub fn refused(number: u8) -> Built
 {
     Built::Refused { number, place: 0 }
 }
+
 use super::sets::wipe32;
 
 // Whether some set slice has too few places for n kinds, or some count slice.
@@ -114,7 +115,15 @@ fn write_tables(
 }
 
 // The two passes, then the tables. What a refusal leaves in the memory is not said.
-fn work(book: &[u8], plausible: &mut [u32], counts: &mut [u8], feasible: &mut [u32], tally: &mut [u8], up: &mut [u8], down: &mut [u8]) -> Built
+fn work(
+    book: &[u8],
+    plausible: &mut [u32],
+    counts: &mut [u8],
+    feasible: &mut [u32],
+    tally: &mut [u8],
+    up: &mut [u8],
+    down: &mut [u8],
+) -> Built
     requires { ⌜ Ready (now book) (lent (now plausible) (now counts) (now feasible) (now tally) (now up) (now down)) ⌝ }
     ensures { λ r. ⌜ Worked (now (book .entry)) (lent (now (plausible .entry)) (now (counts .entry)) (now (feasible .entry)) (now (tally .entry)) (now (up .entry)) (now (down .entry)))
         (said r) (lent (now (plausible .exit)) (now (counts .exit)) (now (feasible .exit)) (now (tally .exit)) (now (up .exit)) (now (down .exit))) ⌝ }
@@ -130,13 +139,24 @@ fn work(book: &[u8], plausible: &mut [u32], counts: &mut [u8], feasible: &mut [u
 }
 
 // The same, with all memory wiped after a refusal.
-pub fn run(book: &[u8], plausible: &mut [u32], counts: &mut [u8], feasible: &mut [u32], tally: &mut [u8], up: &mut [u8], down: &mut [u8]) -> Built
+pub fn run(
+    book: &[u8],
+    plausible: &mut [u32],
+    counts: &mut [u8],
+    feasible: &mut [u32],
+    tally: &mut [u8],
+    up: &mut [u8],
+    down: &mut [u8],
+) -> Built
     requires { ⌜ Ready (now book) (lent (now plausible) (now counts) (now feasible) (now tally) (now up) (now down)) ⌝ }
     ensures { λ r. ⌜ BuildDue (now (book .entry)) (lent (now (plausible .entry)) (now (counts .entry)) (now (feasible .entry)) (now (tally .entry)) (now (up .entry)) (now (down .entry)))
         (said r) (lent (now (plausible .exit)) (now (counts .exit)) (now (feasible .exit)) (now (tally .exit)) (now (up .exit)) (now (down .exit))) ⌝ }
 {
     match work(book, plausible, counts, feasible, tally, up, down) {
-        Built::Accepted { up: ups, down: downs } => Built::Accepted {
+        Built::Accepted {
+            up: ups,
+            down: downs,
+        } => Built::Accepted {
             up: ups,
             down: downs,
         },
