@@ -5,3 +5,4 @@ mod seen;
 mod sets;
 mod upward;
 mod visit;
+mod widen;

@@ -13,7 +13,7 @@ use Rattle.tables.proofs.gather.gather.Kinds as gather-kinds
 use Rattle.tables.proofs.gather.+gather.Lts-gather as gather-lts
 use Rattle.tables.proofs.gather.choose.Reads as choose-reads
 use Rattle.tables.proofs.gather.enter.Reads as enter-reads
-use Rattle.tables.proofs.gather.wide.Reads as wide-reads
+use Rattle.tables.proofs.widen.wide.Reads as wide-reads
 use Rattle.tables.proofs.seen.known.Reads as known-reads
 use Rattle.tables.proofs.seen.remember.Reads as remember-reads
 use Rattle.tables.proofs.gather.+gather.{statement}
