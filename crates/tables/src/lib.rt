@@ -56,3 +56,4 @@ pub fn build(
         }
     }
 }
+mod widen;
