@@ -4,4 +4,5 @@ pub mod Promise
 pub mod Memory
 pub mod Blocks
 pub mod State
+pub mod Shape
 pub mod Fill
