@@ -14,7 +14,7 @@ use Rattle.ranks.specs.Entries.{choices, up-start, down-start}
 use Rattle.ranks.proofs.Numbers.{choices-few, up-start-few, down-start-few}
 use Rattle.tables.specs.Memory.{Fine}
 use Rattle.tables.specs.State.{Readable, based}
-use Rattle.tables.specs.Fill.{kind-of, kinds-from, ShapeAt, Opened, Small, Countable}
+use Rattle.tables.specs.Shape.{kind-of, kinds-from, ShapeAt, Opened, Small, Countable}
 use Rattle.tables.specs.declared.shape.Shape.{Shape}
 use Rattle.tables.proofs.StateBase.{readable}
 use Rattle.tables.proofs.Shapes.{kinds-step, kinds-none, few-choices, kind-is, kids-are, countable}

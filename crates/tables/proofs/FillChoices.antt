@@ -15,7 +15,8 @@ use Rattle.ranks.proofs.Numbers.{choice-below}
 use Rattle.tables.specs.Sets.{member}
 use Rattle.tables.specs.Entries.{Ranks, picked}
 use Rattle.tables.specs.State.{spot}
-use Rattle.tables.specs.Fill.{kind-of, width-of, kinds-from, Sized, Ready, tied-once, tied, InPlace, Entry, entry-size, Rankable, Laid, chosen, Choices, Asked, AllChoices, AllAsked}
+use Rattle.tables.specs.Shape.{kind-of, width-of, kinds-from, Sized}
+use Rattle.tables.specs.Fill.{Ready, tied-once, tied, InPlace, Entry, entry-size, Rankable, Laid, chosen, Choices, Asked, AllChoices, AllAsked}
 use Rattle.tables.specs.declared.shape.Shape.{Shape}
 use Rattle.tables.specs.declared.entry.Table.{Table}
 use Rattle.tables.specs.declared.entry.Table.the-variants.{Down}

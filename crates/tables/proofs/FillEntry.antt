@@ -14,7 +14,8 @@ use Rattle.chains.specs.State.{code-on}
 use Rattle.ranks.specs.Entries.{labels, entry-bytes, none}
 use Rattle.tables.specs.Sets.{member}
 use Rattle.tables.specs.State.{tidied}
-use Rattle.tables.specs.Fill.{kind-of, width-of, InPlace, Listed, RankOn, ChildRank, ChildRanks, DownBytes, Entry, entry-size, Rankable, Laid}
+use Rattle.tables.specs.Shape.{kind-of, width-of}
+use Rattle.tables.specs.Fill.{InPlace, Listed, RankOn, ChildRank, ChildRanks, DownBytes, Entry, entry-size, Rankable, Laid}
 use Rattle.tables.specs.declared.shape.Shape.{Shape}
 use Rattle.tables.specs.declared.entry.Table.{Table}
 use Rattle.tables.proofs.StateTidy.{tidy-state}

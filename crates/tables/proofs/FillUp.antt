@@ -21,7 +21,8 @@ use Rattle.ranks.proofs.Numbers.{ranks-of, ranks-of-below, choice-ranks-of, up-
 use Rattle.tables.specs.Entries.{Ranks, picked, Upward, Ranked, UpTable}
 use Rattle.tables.specs.Promise.{up-entries, Written}
 use Rattle.tables.specs.State.{based}
-use Rattle.tables.specs.Fill.{kinds-from, ShapeAt, tied, Listed, Laid, chosen, Choices, Asked, Opened, Exact, UpRun, UpAll}
+use Rattle.tables.specs.Shape.{kinds-from, ShapeAt, Opened}
+use Rattle.tables.specs.Fill.{tied, Listed, Laid, chosen, Choices, Asked, Exact, UpRun, UpAll}
 use Rattle.tables.specs.declared.shape.Shape.{Shape}
 use Rattle.tables.specs.declared.entry.Table.the-variants.{Up}
 use Rattle.tables.proofs.StateBase.{few-settings}
@@ -104,7 +105,8 @@ pub record UpFilling (b s c : List ℕ) (n : ℕ) (out out′ : List ℕ) (z p :
   pub room : up-entries (grammar b) c ≤ length out
   pub laid : Laid 1 (up-start (grammar b) c p) (UpAll (grammar b) s c) out 0 out′ z
 
-pub up-begun : {b places : List ℕ} → Opened b places → (s c : List ℕ) {n m : ℕ} {out : List ℕ} → n ≡ m → m ≡ told b 2 → up-entries (grammar b) c ≤ length out → UpFilling b s c n out out 0 0
+pub up-begun : {b places : List ℕ} → Opened b places → (s c : List ℕ) {n m : ℕ} {out : List ℕ} → n ≡ m → m ≡ told b 2 → up-entries (grammar b) c ≤ length out
+    → UpFilling b s c n out out 0 0
 unfolding up-start
 up-begun {b} o s c e e′ room = record { all = e ∙ e′ ∙ told-prods (o .book); within = omega arith; room = room; laid = laid-none 1 (UpAll (grammar b) s c) _ 0 }
 

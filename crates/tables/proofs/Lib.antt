@@ -25,6 +25,14 @@ pub mod Planning
 pub mod Sweeping
 pub mod UpwardVisit
 pub mod UpwardSweep
+pub mod Shapes
+pub mod EntryCounts
+pub mod FillRuns
+pub mod FillEntry
+pub mod FillChoices
+pub mod FillState
+pub mod Exits
+pub mod Building
 pub mod DownwardVisit
 pub mod DownwardSweep
 pub mod Shapes
@@ -36,3 +44,4 @@ pub mod FillState
 pub mod FillUp
 pub mod FillDown
 pub mod Seeding
+pub mod BuildSteps

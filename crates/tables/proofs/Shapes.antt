@@ -16,7 +16,7 @@ use Rattle.book.specs.Reading.{kind-in}
 use Rattle.book.proofs.Accepted.{Accepted, arity-read, kind-in-read}
 use Rattle.ranks.specs.Entries.{choices}
 use Rattle.ranks.proofs.Numbers.{choices-few}
-use Rattle.tables.specs.Fill.{max-slots, kind-of, width-of, kinds-from, ShapeAt, Small, Countable}
+use Rattle.tables.specs.Shape.{max-slots, kind-of, width-of, kinds-from, ShapeAt, Small, Countable}
 use Rattle.tables.specs.State.{width-in}
 use Rattle.tables.specs.declared.shape.Shape.{Shape}
 use Rattle.tables.proofs.StateBase.{width-is, few-settings}

@@ -4,21 +4,22 @@ use mathlib.Core.Path.{_≡_, refl, sym, ap, ap₂, _∙_, subst}
 use mathlib.Core.Logic.{inl, inr}
 use mathlib.Core.Bool.{Bool, true, false, true≢false}
 use mathlib.Core.List.{List, List·Memᴰ}
-use Prim.Native.Nat.{ℕ, zero, suc, _+_, _≤_, _<_}
+use Prim.Native.Nat.{ℕ, zero, suc, _+_, _*_, _≤_, _<_}
 use native.Mathlib.Numerals.{add-one}
 use native.Mathlib.Omega.{arith}
 use native.Mathlib.Decide.{ℕ-discrete}
 use lib.ListN.{length, getD, set}
 use lib.Seq.{getD-set-same, getD-set-other}
 use Rattle.lists.proofs.Order.{by-order}
-use Rattle.chains.specs.Limits.{max-prods}
-use Rattle.tables.specs.Sets.{Has}
+use Rattle.chains.specs.Limits.{max-prods, max-members}
+use Rattle.tables.specs.Sets.{Has, Holds}
 use Rattle.tables.specs.Memory.{Fine, Kept, Turned, room}
 use Rattle.tables.specs.Visit.{Gathered}
-use Rattle.tables.specs.Sweep.{Since, Served, total, Marked, Attended, Swept}
+use Rattle.tables.specs.Sweep.{Since, Served, total, Marked, Attended, Swept, Exact}
 use Rattle.tables.specs.declared.sets.Turn.{Turn}
 use Rattle.tables.specs.declared.sets.Turn.the-variants.{Still, Added, Full}
 use Rattle.tables.proofs.Memory.{kept-refl, kept-trans, equal-counts, turned-map, Lasts, Going, set-out, on-still, on-added, on-full, end-added, end-still}
+use Rattle.tables.proofs.Holds.{holds-fine}
 use Rattle.tables.proofs.Gathering.{fine-own}
 
 -- where no set is over-full, what a turn was to bring about holds
@@ -235,3 +236,8 @@ module _ {n : ℕ} {P : ℕ → ℕ → Type 0} {Marks : List ℕ → List ℕ �
     closed = λ z. absurd (true≢false (sym z));
     over = λ z. as-told Full e .turned .case;
   }
+
+-- ---- a pass after a pass
+-- sets that hold exactly what has P, whatever stood there before
+pub holds-exact : {n : ℕ} {P : ℕ → ℕ → Type 0} {s₀ c₀ s c : List ℕ} → n * max-members ≤ length s₀ → n ≤ length c₀ → Holds n P s₀ c₀ s c → Exact n P s c
+holds-exact there here h = record { fine = holds-fine there here h; whole = λ k x l. h .exactly k x l .1 }

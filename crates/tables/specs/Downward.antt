@@ -10,7 +10,10 @@ use Rattle.chains.specs.Limits.{max-members}
 use Rattle.chains.specs.Steps.{StepDown}
 use Rattle.book.specs.Format.{kinds, prods, grammar}
 use Rattle.tables.specs.Sets.{members, Has}
+use Rattle.tables.specs.Memory.{Turned}
+use Rattle.tables.specs.Visit.{Gathered, OldOr}
 use Rattle.tables.specs.Sweep.{Served, Marked}
+use Rattle.tables.specs.declared.sets.Turn.{Turn}
 
 -- ── a visit for the child in slot t ──
 -- the slot of turn j: t first, so that it is tied last, then the others in order
@@ -32,6 +35,13 @@ down-into b p j = getD (grammar b .kids p) j 0
 abbrev pub down-watch : List ℕ → ℕ → ℕ → ℕ
 down-watch b p i = grammar b .left p
 
+-- what a visit of production p for child j leaves: all its results there over the sets as they stood are in the child's kind's set, and nothing
+-- else is new
+abbrev pub DownVisited : (b s c : List ℕ) → (p j : ℕ) → (f d f′ d′ : List ℕ) → Turn → Type 0
+DownVisited b s c p j f d f′ d′ r = Turned (kinds b) (OldOr f d (down-into b p j) (down-step b s c p j (Has f d)))
+    (Gathered (down-into b p j) (down-step b s c p j (Has f d)) f′ d′) f d f′ d′ r
+
+-- its steps were served since f₀, d₀
 abbrev pub DownServed : (b s c : List ℕ) → ℕ → (f₀ d₀ f d : List ℕ) → Type 0
 DownServed b s c p = Served (kinds b) (length (grammar b .kids p)) (down-step b s c p) (down-into b p)
 

@@ -1,73 +1,23 @@
--- The entries of the two tables while they are counted and written: the shape of a production, the states that its choices come to, and what an
--- entry has from a state. No promise of the library cites this page.
+-- The entries of the two tables while they are written: the states that a production's choices come to, what an entry has from a state, and runs of
+-- entries. No promise of the library cites this page.
 use mathlib.Core.Path.{_≡_}
 use mathlib.Core.List.{List, [], _∷_}
-use Prim.Native.Nat.{ℕ, suc, _+_, _-_, _*_, _≤_, _<_}
+use Prim.Native.Nat.{ℕ, suc, _+_, _*_, _≤_, _<_}
 use lib.ListN.{length, getD, take}
 use Rattle.lists.specs.Part.{part, place}
-use Rattle.chains.specs.Limits.{max-settings, max-kids, max-members}
+use Rattle.chains.specs.Limits.{max-kids}
 use Rattle.chains.specs.Grammar.{Grammar, width}
-use Rattle.chains.specs.Labels as labelling
 use Rattle.chains.specs.Labels.{joins}
 use Rattle.chains.specs.State.{code-pairs, code-on}
-use Rattle.book.specs.Format.{kinds, arity-at}
-use Rattle.book.specs.Reading.{kind-in, Index}
-use Rattle.book.proofs.Accepted.{Accepted}
 use Rattle.ranks.specs.Entries.{choices, choice, up-entry, down-entry, labels, entry-bytes, none}
 use Rattle.tables.specs.Sets.{Has, member}
 use Rattle.tables.specs.Entries.{Ranks, picked, Upward, Downward, Ranked, DownEntry}
-use Rattle.tables.specs.Memory.{Placed, Fine}
-use Rattle.tables.specs.State.{State, Whole, tidied, width-in}
+use Rattle.tables.specs.Memory.{Fine}
+use Rattle.tables.specs.State.{State, Whole, tidied}
+use Rattle.tables.specs.Shape.{kind-of, width-of, kinds-from, Sized, AllPlaced}
 use Rattle.tables.specs.declared.shape.Shape.{Shape}
 use Rattle.tables.specs.declared.entry.Table.{Table}
 use Rattle.tables.specs.declared.entry.Table.the-variants.{Up, Down}
-
--- ── the shape of a production ──
-abbrev pub max-slots : ℕ
-max-slots = suc max-kids
-
--- the kind of slot t, and its number of settings
-abbrev pub kind-of : Shape → ℕ → ℕ
-kind-of v t = getD (v .kinds) t 0
-
-abbrev pub width-of : Shape → ℕ → ℕ
-width-of v t = getD (v .widths) t 0
-
--- the kinds of the slots from t on
-unfoldable pub kinds-from : Shape → ℕ → List ℕ
-kinds-from v t = labelling.labels (kind-of v) t (suc (v .arity) - t)
-
--- v is the shape of the production whose entry stands at `at`
-pub record ShapeAt (b : List ℕ) (at : ℕ) (v : Shape) : Type 0 where
-  pub arity : v .arity ≡ arity-at b at
-  pub kinds : (t : ℕ) → t < max-slots → kind-of v t ≡ kind-in b at t
-  pub widths : (t : ℕ) → t < max-slots → width-of v t ≡ width-in b at t
-
--- ── what the counting leans on ──
--- the book is accepted, and its entries stand at these places
-pub record Opened (b places : List ℕ) : Type 0 where
-  pub book : Accepted b
-  pub index : Index b places
-
--- every kind of the book has its count, of a set that is not over-full
-pub record Small (b c : List ℕ) : Type 0 where
-  pub here : kinds b ≤ length c
-  pub few : (k : ℕ) → k < kinds b → getD c k 0 ≤ max-members
-
--- the same for the kinds of one production
-pub record Countable (v : Shape) (c : List ℕ) : Type 0 where
-  pub arity : v .arity ≤ max-kids
-  pub here : (t : ℕ) → t ≤ v .arity → kind-of v t < length c
-  pub few : (t : ℕ) → t ≤ v .arity → getD c (kind-of v t) 0 ≤ max-members
-
--- the slots fit their places in a state, and the counts theirs
-pub record Sized (v : Shape) : Type 0 where
-  pub arity : v .arity ≤ max-kids
-  pub widths : (t : ℕ) → t ≤ v .arity → width-of v t ≤ max-settings
-
--- each slot's kind has its places in the sets s, and its count in c
-abbrev pub AllPlaced : Shape → List ℕ → List ℕ → Type 0
-AllPlaced v s c = (t : ℕ) → t ≤ v .arity → Placed s c (kind-of v t)
 
 -- ── states ──
 -- x is a state in which the settings of each slot are there

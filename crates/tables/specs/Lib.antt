@@ -8,5 +8,9 @@ pub mod Seen
 pub mod Visit
 pub mod Sweep
 pub mod Upward
+pub mod Shape
+pub mod Fill
+pub mod Answer
+pub mod Making
 pub mod Downward
 pub mod Fill

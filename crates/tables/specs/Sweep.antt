@@ -11,11 +11,7 @@ use Rattle.tables.specs.Visit.{Gathered}
 use Rattle.tables.specs.declared.sets.Turn.{Turn}
 use Rattle.tables.specs.declared.sets.Turn.the-variants.{Full}
 
--- what a step gives, for sets that have A
-abbrev pub Step : Type 1
-Step = (ℕ → ℕ → Type 0) → ℕ → Type 0
-
--- some time since s₀, c₀, all that the step gave for the sets as they stood was put into kind k's set, and it is there
+-- step A x: the step gives x for sets that have A. Some time since s₀, c₀, all that it gave for the sets as they stood was put into kind k's set, and it is there
 pub record Since (n : ℕ) (step : (ℕ → ℕ → Type 0) → ℕ → Type 0) (k : ℕ) (s₀ c₀ s c : List ℕ) : Type 0 where
   pub sets : List ℕ
   pub counts : List ℕ

@@ -5,7 +5,10 @@ use lib.ListN.{length, getD}
 use Rattle.chains.specs.Steps.{StepUp}
 use Rattle.book.specs.Format.{kinds, prods, grammar}
 use Rattle.tables.specs.Sets.{Has}
+use Rattle.tables.specs.Memory.{Turned}
+use Rattle.tables.specs.Visit.{Gathered, OldOr}
 use Rattle.tables.specs.Sweep.{Served, Marked}
+use Rattle.tables.specs.declared.sets.Turn.{Turn}
 
 -- production p's one step, for its left kind, watches its children's kinds
 abbrev pub up-step : List ℕ → ℕ → ℕ → (ℕ → ℕ → Type 0) → ℕ → Type 0
@@ -17,6 +20,12 @@ up-into b p j = grammar b .left p
 abbrev pub up-watch : List ℕ → ℕ → ℕ → ℕ
 up-watch b p i = getD (grammar b .kids p) i 0
 
+-- what a visit of production p leaves: all its results over the sets as they stood are in its left kind's set, and nothing else is new
+abbrev pub UpVisited : List ℕ → ℕ → (s c s′ c′ : List ℕ) → Turn → Type 0
+UpVisited b p s c s′ c′ r = Turned (kinds b) (OldOr s c (grammar b .left p) (StepUp (grammar b) (Has s c) p))
+    (Gathered (grammar b .left p) (StepUp (grammar b) (Has s c) p) s′ c′) s c s′ c′ r
+
+-- its step was served since s₀, c₀
 abbrev pub UpServed : List ℕ → ℕ → (s₀ c₀ s c : List ℕ) → Type 0
 UpServed b p = Served (kinds b) 1 (up-step b p) (up-into b p)
 

@@ -10,9 +10,9 @@ ghost use Rattle.book.specs.Reading.{told, kind-in, Index};
 ghost use Rattle.book.proofs.Accepted.{Accepted};
 ghost use Rattle.tables.specs.Sets.{Has};
 ghost use Rattle.tables.specs.Memory.{Placed, Fine, Turned};
-ghost use Rattle.tables.specs.Visit.{max-turns, Gathered, OldOr, Opened, Opening};
+ghost use Rattle.tables.specs.Visit.{max-turns, Opened, Opening};
 ghost use Rattle.tables.specs.Sweep.{Attended, Swept, Exact, Outcome};
-ghost use Rattle.tables.specs.Downward.{slot-down, given, down-step, down-into, DownServed, DownMarks, DownSwept, DownClosed, Seeded};
+ghost use Rattle.tables.specs.Downward.{slot-down, given, DownVisited, DownServed, DownMarks, DownSwept, DownClosed, Seeded};
 use super::gather::Visit;
 use super::sets::MAX_MEMBERS;
 use super::sets::Turn;
@@ -21,30 +21,13 @@ use super::sets::clear32;
 use super::sets::copy_members;
 use super::sets::count;
 use super::visit::LIST_PLACES;
+use super::visit::MARKS;
 use super::visit::looking_at;
 use super::visit::open_turn;
 use super::visit::visit;
-
-// A mark for each production.
-const MARKS: usize = 64;
-
-fn span(x: u16) -> usize
-    ensures { λ r. ⌜ (r ≡ x) × (r < 65536) ⌝ }
-{
-    x as usize
-}
-
-fn word(x: u8) -> u16
-    ensures { λ r. ⌜ (r ≡ x) × (r < 256) ⌝ }
-{
-    x as u16
-}
-
-fn wide(x: u8) -> usize
-    ensures { λ r. ⌜ (r ≡ x) × (r < 256) ⌝ }
-{
-    x as usize
-}
+use super::widen::span;
+use super::widen::wide;
+use super::widen::word;
 
 // The slot of turn j in a visit for the child in slot t, which is tied last.
 fn slot_down(t: u8, j: u8) -> u8
@@ -122,11 +105,7 @@ fn visit_down(
         × Fine (kinds (now book)) (Plausible (grammar (now book))) (now plausible) (now counts)
         × Fine (kinds (now book)) (Has (now feasible) (now tally)) (now feasible) (now tally) ⌝ }
     ensures { λ r. ⌜ ((p j : ℕ) → p < prods (now (book .entry)) → at ≡ entry (now (book .entry)) p → j < length (grammar (now (book .entry)) .kids p) → t ≡ suc j
-        → Turned (kinds (now (book .entry)))
-        (OldOr (now (feasible .entry)) (now (tally .entry)) (down-into (now (book .entry)) p j)
-        (down-step (now (book .entry)) (now (plausible .entry)) (now (counts .entry)) p j (Has (now (feasible .entry)) (now (tally .entry)))))
-        (Gathered (down-into (now (book .entry)) p j)
-        (down-step (now (book .entry)) (now (plausible .entry)) (now (counts .entry)) p j (Has (now (feasible .entry)) (now (tally .entry)))) (now (feasible .exit)) (now (tally .exit)))
+        → DownVisited (now (book .entry)) (now (plausible .entry)) (now (counts .entry)) p j
         (now (feasible .entry)) (now (tally .entry)) (now (feasible .exit)) (now (tally .exit)) r) ⌝ }
 {
     let mut lists = [0u32; LIST_PLACES];

@@ -6,7 +6,7 @@ ghost use Rattle.chains.specs.Limits.{max-kids};
 ghost use Rattle.chains.specs.State.{code-on};
 ghost use Rattle.ranks.specs.Entries.{labels};
 ghost use Rattle.tables.specs.Memory.{Put};
-ghost use Rattle.tables.specs.Visit.{Ready, Standing, InOrder, released, chosen, Request, Reply};
+ghost use Rattle.tables.specs.Visit.{max-turns, Ready, Standing, InOrder, released, chosen, Request, Reply};
 use super::labels::LABELS;
 use super::labels::NONE;
 use super::labels::copy_state;
@@ -19,9 +19,10 @@ use super::seen::remember;
 use super::sets::MAX_MEMBERS;
 use super::sets::Turn;
 use super::sets::put;
+use super::widen::wide;
 
 // Slots of a production: the left kind and its children.
-pub const SLOTS: usize = 5;
+pub const SLOTS: usize = 1 + book::limits::MAX_CHILDREN as usize;
 
 // A visit of a production: the slots whose codes are chosen, in turn, the last one first, each with its number of settings and of codes; and the
 // slot that the results are seen on, with its number of settings and its kind.
@@ -32,12 +33,6 @@ pub struct Visit {
     pub target: u8,
     pub width: u8,
     pub kind: u8,
-}
-
-fn wide(x: u8) -> usize
-    ensures { λ r. ⌜ (r ≡ x) × (r < 256) ⌝ }
-{
-    x as usize
 }
 
 // A slot dropped, unless it is the one that the results are seen on.
@@ -52,7 +47,7 @@ fn release(t: &mut [u8; LABELS], slot: u8, target: u8)
 
 // The state s once turn j has chosen a code: tied to its slot, and the slot released.
 fn choose(v: Visit, j: usize, code: u32, s: &[u8; LABELS], t: &mut [u8; LABELS])
-    requires { ⌜ Ready v (suc j) × (j < 5) × Standing v (suc j) (now s) × (length (now t) ≡ labels) ⌝ }
+    requires { ⌜ Ready v (suc j) × (j < max-turns) × Standing v (suc j) (now s) × (length (now t) ≡ labels) ⌝ }
     ensures { λ _. ⌜ now (t .exit) ≡ chosen v j code (now (s .entry)) ⌝ }
 {
     let slot = v.slots[j];

@@ -9,20 +9,17 @@ ghost use Rattle.tables.specs.Seen.{places, levels, seen-bytes, filled, 
 use super::labels::LABELS;
 use super::labels::copy_state;
 use super::labels::same_state;
+use super::widen::wide;
 
+// States for each number of turns left.
 const PLACES: usize = 64;
 
-const LEVELS: usize = 6;
+// From no turn left to a turn for each slot.
+const LEVELS: usize = 2 + book::limits::MAX_CHILDREN as usize;
 
 const LEVEL_BYTES: usize = 1 + PLACES * LABELS;
 
 pub const SEEN_BYTES: usize = LEVELS * LEVEL_BYTES;
-
-fn wide(x: u8) -> usize
-    ensures { λ r. ⌜ (r ≡ x) × (r < 256) ⌝ }
-{
-    x as usize
-}
 
 // How many of a level's places are filled, by its counter.
 fn filled(counter: u8) -> usize

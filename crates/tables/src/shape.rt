@@ -2,7 +2,7 @@
 // the entries that the production has.
 ghost use mathlib.Core.Path.{_≡_};
 ghost use Prim.Native.Nat.{_<_};
-ghost use Rattle.tables.specs.Fill.{ShapeAt};
+ghost use Rattle.tables.specs.Shape.{ShapeAt};
 use super::labels::width;
 
 // Slots of a production: the left kind and its children.

@@ -6,7 +6,7 @@ ghost use Rattle.chains.specs.Limits.{max-members, max-kids, max-prods};
 ghost use Rattle.book.specs.Format.{grammar};
 ghost use Rattle.ranks.specs.Entries.{choices};
 ghost use Rattle.tables.specs.Promise.{up-entries, down-entries};
-ghost use Rattle.tables.specs.Fill.{Opened, Small, Countable, kinds-from};
+ghost use Rattle.tables.specs.Shape.{Opened, Small, Countable, kinds-from};
 use super::shape::Shape;
 use super::shape::shape_of;
 use super::shape::span;

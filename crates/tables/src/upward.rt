@@ -3,46 +3,28 @@ ghost use mathlib.Core.Path.{_≡_};
 ghost use Prim.Native.Nat.{ℕ, suc, _*_, _<_, _≤_};
 ghost use lib.ListN.{length};
 ghost use Rattle.chains.specs.Limits.{max-kids, max-members, max-prods};
-ghost use Rattle.chains.specs.Steps.{StepUp};
 ghost use Rattle.chains.specs.Plausible.{Plausible};
 ghost use Rattle.book.specs.Format.{arity-at, entry, kinds, prods, grammar};
 ghost use Rattle.book.specs.Reading.{kind-in, kid-at, Index};
 ghost use Rattle.book.proofs.Accepted.{Accepted};
 ghost use Rattle.tables.specs.Sets.{Has};
-ghost use Rattle.tables.specs.Memory.{Placed, Fine, Turned};
-ghost use Rattle.tables.specs.Visit.{max-turns, Gathered, OldOr, Opening};
+ghost use Rattle.tables.specs.Memory.{Placed, Fine};
+ghost use Rattle.tables.specs.Visit.{max-turns, Opening};
 ghost use Rattle.tables.specs.Sweep.{total, Attended, Swept, Outcome};
-ghost use Rattle.tables.specs.Upward.{UpServed, UpMarks, UpSwept, UpClosed};
+ghost use Rattle.tables.specs.Upward.{UpVisited, UpServed, UpMarks, UpSwept, UpClosed};
 use super::gather::Visit;
 use super::sets::MAX_MEMBERS;
 use super::sets::Turn;
 use super::sets::clear8;
 use super::sets::clear32;
 use super::visit::LIST_PLACES;
+use super::visit::MARKS;
 use super::visit::looking_at;
 use super::visit::open_turn;
 use super::visit::visit;
-
-// A mark for each production.
-const MARKS: usize = 64;
-
-fn wide(x: u8) -> usize
-    ensures { λ r. ⌜ (r ≡ x) × (r < 256) ⌝ }
-{
-    x as usize
-}
-
-fn span(x: u16) -> usize
-    ensures { λ r. ⌜ (r ≡ x) × (r < 65536) ⌝ }
-{
-    x as usize
-}
-
-fn word(x: u8) -> u16
-    ensures { λ r. ⌜ (r ≡ x) × (r < 256) ⌝ }
-{
-    x as u16
-}
+use super::widen::span;
+use super::widen::wide;
+use super::widen::word;
 
 // The children in turn, from the first; the results are seen on the left kind.
 fn prepare_up(book: &[u8], at: usize, sets: &[u32], counts: &[u8], lists: &mut [u32]) -> Visit
@@ -65,10 +47,7 @@ fn visit_up(book: &[u8], at: usize, sets: &mut [u32], counts: &mut [u8]) -> Turn
     requires { ⌜ Accepted (now book) × ((p : ℕ) × (p < prods (now book)) × (at ≡ entry (now book) p))
         × Fine (kinds (now book)) (Has (now sets) (now counts)) (now sets) (now counts) ⌝ }
     ensures { λ r. ⌜ ((p : ℕ) → p < prods (now (book .entry)) → at ≡ entry (now (book .entry)) p
-        → Turned (kinds (now (book .entry)))
-        (OldOr (now (sets .entry)) (now (counts .entry)) (grammar (now (book .entry)) .left p) (StepUp (grammar (now (book .entry))) (Has (now (sets .entry)) (now (counts .entry))) p))
-        (Gathered (grammar (now (book .entry)) .left p) (StepUp (grammar (now (book .entry))) (Has (now (sets .entry)) (now (counts .entry))) p) (now (sets .exit)) (now (counts .exit)))
-        (now (sets .entry)) (now (counts .entry)) (now (sets .exit)) (now (counts .exit)) r) ⌝ }
+        → UpVisited (now (book .entry)) p (now (sets .entry)) (now (counts .entry)) (now (sets .exit)) (now (counts .exit)) r) ⌝ }
 {
     let mut lists = [0u32; LIST_PLACES];
     let v = prepare_up(book, at, sets, counts, &mut lists);

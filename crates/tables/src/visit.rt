@@ -21,15 +21,13 @@ use super::sets::MAX_MEMBERS;
 use super::sets::Turn;
 use super::sets::copy_members;
 use super::sets::count;
+use super::widen::wide;
+
+// A mark for each production, by which a visit is spared.
+pub const MARKS: usize = book::limits::MAX_PRODUCTIONS as usize;
 
 // Codes of all turns.
 pub const LIST_PLACES: usize = SLOTS * MAX_MEMBERS;
-
-fn wide(x: u8) -> usize
-    ensures { λ r. ⌜ (r ≡ x) × (r < 256) ⌝ }
-{
-    x as usize
-}
 
 // No turn yet, and the results seen on a slot.
 pub fn looking_at(book: &[u8], at: usize, slot: u8) -> Visit

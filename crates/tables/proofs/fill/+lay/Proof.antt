@@ -2,7 +2,8 @@
 use Prim.Native.Nat.{ℕ, suc, _<_, _-_}
 use native.Mathlib.Omega.{arith}
 use Rattle.ranks.specs.Entries.{choices}
-use Rattle.tables.specs.Fill.{kinds-from, entry-size, Choices}
+use Rattle.tables.specs.Shape.{kinds-from}
+use Rattle.tables.specs.Fill.{entry-size, Choices}
 use Rattle.tables.proofs.FillRuns.{Blocks}
 use Rattle.tables.proofs.FillChoices.{leaf-asks, leaf-laid, turn-placed, turn-begun, turn-asks, turn-next, turn-done}
 use borrow.Fn.Kinds.{In}

@@ -2,7 +2,8 @@
 use Prim.Native.Nat.{_-_}
 use native.Mathlib.Omega.{arith}
 use Rattle.ranks.specs.Entries.{choices, entry-bytes}
-use Rattle.tables.specs.Fill.{kinds-from, AllChoices}
+use Rattle.tables.specs.Shape.{kinds-from}
+use Rattle.tables.specs.Fill.{AllChoices}
 use Rattle.tables.proofs.FillRuns.{Blocks}
 use Rattle.tables.proofs.FillChoices.{feed-begun, feed-placed, feed-asks, feed-next, feed-done}
 use Rattle.tables.proofs.fill.lay_down.Statement.{statement}

@@ -13,7 +13,7 @@ use Rattle.tables.proofs.gather.gather.Kinds as gather-kinds
 use Rattle.tables.proofs.gather.+gather.Lts-gather as gather-lts
 use Rattle.tables.proofs.gather.choose.Reads as choose-reads
 use Rattle.tables.proofs.gather.enter.Reads as enter-reads
-use Rattle.tables.proofs.gather.wide.Reads as wide-reads
+use Rattle.tables.proofs.widen.wide.Reads as wide-reads
 use Rattle.tables.proofs.seen.known.Reads as known-reads
 use Rattle.tables.proofs.seen.remember.Reads as remember-reads
 use Rattle.tables.proofs.gather.+gather.{statement}
@@ -28,6 +28,10 @@ gather-at t = and 5 gather-kinds.ps (is 5 gather-kinds.ps μ-gather t) gather.Pr
 abbrev gather-below : ℕ → In 5 gather-kinds.ps
 gather-below t = and 5 gather-kinds.ps (falls 5 gather-kinds.ps _<_ μ-gather t) gather.Pre
 
+-- what the callees ask and give; the recursive call only where turns fall
+abbrev claims : ℕ → gather-lts.Claims
+claims t = (enter-reads.Asked, enter-reads.Learnt, known-reads.Asked, known-reads.Learnt, wide-reads.Asked, wide-reads.Learnt, choose-reads.Asked, choose-reads.Learnt, gather-below t, gather.Post, remember-reads.Asked, remember-reads.Learnt)
+
 abbrev gather-Inv-loop : gather-lts.InvT-loop
 gather-Inv-loop j s lists seen₀ sets₀ counts₀ v n t₀ added₀ i₀ seen sets counts t added i = Turning v lists (j - 1) s sets₀ counts₀ seen sets counts t added i
 
@@ -35,125 +39,125 @@ abbrev gather-μ-loop : gather-lts.MeasureT-loop
 gather-μ-loop j s lists seen₀ sets₀ counts₀ v n t₀ added₀ i₀ seen sets counts t added i = n - i
 
 module _ (t : ℕ) where
-  enter-requires : gather-lts.Need-enter-requires (enter-reads.Asked, enter-reads.Learnt, known-reads.Asked, known-reads.Learnt, wide-reads.Asked, wide-reads.Learnt, choose-reads.Asked, choose-reads.Learnt, gather-below t, gather.Post, remember-reads.Asked, remember-reads.Learnt) (gather-at t) gather.Post gather-Inv-loop gather-μ-loop
+  enter-requires : gather-lts.Need-enter-requires (claims t) (gather-at t) gather.Post gather-Inv-loop gather-μ-loop
   enter-requires c κs =
       let q = rw (c .before .before .if1 .taken) at (c .before .before .before .before .before .before .before .pre .1) in
       (q .ready, q .standing, q .order)
 
-  same-length : gather-lts.Need-same-length (enter-reads.Asked, enter-reads.Learnt, known-reads.Asked, known-reads.Learnt, wide-reads.Asked, wide-reads.Learnt, choose-reads.Asked, choose-reads.Learnt, gather-below t, gather.Post, remember-reads.Asked, remember-reads.Learnt) (gather-at t) gather.Post gather-Inv-loop gather-μ-loop
+  same-length : gather-lts.Need-same-length (claims t) (gather-at t) gather.Post gather-Inv-loop gather-μ-loop
   same-length c = search needs
 
-  same-length-2 : gather-lts.Need-same-length-2 (enter-reads.Asked, enter-reads.Learnt, known-reads.Asked, known-reads.Learnt, wide-reads.Asked, wide-reads.Learnt, choose-reads.Asked, choose-reads.Learnt, gather-below t, gather.Post, remember-reads.Asked, remember-reads.Learnt) (gather-at t) gather.Post gather-Inv-loop gather-μ-loop
+  same-length-2 : gather-lts.Need-same-length-2 (claims t) (gather-at t) gather.Post gather-Inv-loop gather-μ-loop
   same-length-2 c = search needs
 
-  returns : gather-lts.Need-returns (enter-reads.Asked, enter-reads.Learnt, known-reads.Asked, known-reads.Learnt, wide-reads.Asked, wide-reads.Learnt, choose-reads.Asked, choose-reads.Learnt, gather-below t, gather.Post, remember-reads.Asked, remember-reads.Learnt) (gather-at t) gather.Post gather-Inv-loop gather-μ-loop
+  returns : gather-lts.Need-returns (claims t) (gather-at t) gather.Post gather-Inv-loop gather-μ-loop
   returns c =
       let e = c .before .before .before .before .before .before .before .if1 .taken in
       rw e (reply-none _ _ (rw e at (c .before .before .before .before .before .before .before .before .before .before .before .before .pre .1)) (c .before .before .before .before .enter .ensures))
 
-  known-requires : gather-lts.Need-known-requires (enter-reads.Asked, enter-reads.Learnt, known-reads.Asked, known-reads.Learnt, wide-reads.Asked, wide-reads.Learnt, choose-reads.Asked, choose-reads.Learnt, gather-below t, gather.Post, remember-reads.Asked, remember-reads.Learnt) (gather-at t) gather.Post gather-Inv-loop gather-μ-loop
+  known-requires : gather-lts.Need-known-requires (claims t) (gather-at t) gather.Post gather-Inv-loop gather-μ-loop
   known-requires c κs =
       let q = c .before .before .before .before .before .before .pre .1 in
       (omega (arith, q .ready .few), q .seen .long, q .standing .state .long)
 
-  same-length-3 : gather-lts.Need-same-length-3 (enter-reads.Asked, enter-reads.Learnt, known-reads.Asked, known-reads.Learnt, wide-reads.Asked, wide-reads.Learnt, choose-reads.Asked, choose-reads.Learnt, gather-below t, gather.Post, remember-reads.Asked, remember-reads.Learnt) (gather-at t) gather.Post gather-Inv-loop gather-μ-loop
+  same-length-3 : gather-lts.Need-same-length-3 (claims t) (gather-at t) gather.Post gather-Inv-loop gather-μ-loop
   same-length-3 c = search needs
 
-  returns-2 : gather-lts.Need-returns-2 (enter-reads.Asked, enter-reads.Learnt, known-reads.Asked, known-reads.Learnt, wide-reads.Asked, wide-reads.Learnt, choose-reads.Asked, choose-reads.Learnt, gather-below t, gather.Post, remember-reads.Asked, remember-reads.Learnt) (gather-at t) gather.Post gather-Inv-loop gather-μ-loop
+  returns-2 : gather-lts.Need-returns-2 (claims t) (gather-at t) gather.Post gather-Inv-loop gather-μ-loop
   returns-2 c =
       let e = one-less (c .before .before .before .before .before .before .before .before .args .j) (c .before .before .before .if1 .left) in
       rw e (reply-known _ _ _ _ (rw e at (c .before .before .before .before .before .before .before .before .pre .1)) (rw e at (c .before .known .ensures (c .if2 .taken))))
 
-  sub-wide : gather-lts.Need-sub-wide (enter-reads.Asked, enter-reads.Learnt, known-reads.Asked, known-reads.Learnt, wide-reads.Asked, wide-reads.Learnt, choose-reads.Asked, choose-reads.Learnt, gather-below t, gather.Post, remember-reads.Asked, remember-reads.Learnt) (gather-at t) gather.Post gather-Inv-loop gather-μ-loop
+  sub-wide : gather-lts.Need-sub-wide (claims t) (gather-at t) gather.Post gather-Inv-loop gather-μ-loop
   sub-wide c = omega arith
 
-  element-copy-out-wide : gather-lts.Need-element-copy-out-wide (enter-reads.Asked, enter-reads.Learnt, known-reads.Asked, known-reads.Learnt, wide-reads.Asked, wide-reads.Learnt, choose-reads.Asked, choose-reads.Learnt, gather-below t, gather.Post, remember-reads.Asked, remember-reads.Learnt) (gather-at t) gather.Post gather-Inv-loop gather-μ-loop
+  element-copy-out-wide : gather-lts.Need-element-copy-out-wide (claims t) (gather-at t) gather.Post gather-Inv-loop gather-μ-loop
   element-copy-out-wide c = omega (arith, c .before .before .before .before .before .before .before .before .pre .1 .ready .few)
 
-  wide-requires : gather-lts.Need-wide-requires (enter-reads.Asked, enter-reads.Learnt, known-reads.Asked, known-reads.Learnt, wide-reads.Asked, wide-reads.Learnt, choose-reads.Asked, choose-reads.Learnt, gather-below t, gather.Post, remember-reads.Asked, remember-reads.Learnt) (gather-at t) gather.Post gather-Inv-loop gather-μ-loop
+  wide-requires : gather-lts.Need-wide-requires (claims t) (gather-at t) gather.Post gather-Inv-loop gather-μ-loop
   wide-requires c κs = search needs
 
-  loop-holds : gather-lts.Need-loop-holds (enter-reads.Asked, enter-reads.Learnt, known-reads.Asked, known-reads.Learnt, wide-reads.Asked, wide-reads.Learnt, choose-reads.Asked, choose-reads.Learnt, gather-below t, gather.Post, remember-reads.Asked, remember-reads.Learnt) (gather-at t) gather.Post gather-Inv-loop gather-μ-loop
+  loop-holds : gather-lts.Need-loop-holds (claims t) (gather-at t) gather.Post gather-Inv-loop gather-μ-loop
   loop-holds c =
       let e = one-less (c .before .before .before .before .before .before .before .before .before .before .args .j) (c .before .before .before .before .before .if1 .left) in
       (loop-begun _ _ _ _ (rw e at (c .before .before .before .before .before .before .before .before .before .before .pre .1)), omega arith)
 
-  sub-choose : gather-lts.Need-sub-choose (enter-reads.Asked, enter-reads.Learnt, known-reads.Asked, known-reads.Learnt, wide-reads.Asked, wide-reads.Learnt, choose-reads.Asked, choose-reads.Learnt, gather-below t, gather.Post, remember-reads.Asked, remember-reads.Learnt) (gather-at t) gather.Post gather-Inv-loop gather-μ-loop
+  sub-choose : gather-lts.Need-sub-choose (claims t) (gather-at t) gather.Post gather-Inv-loop gather-μ-loop
   sub-choose c = omega arith
 
-  sub-choose-2 : gather-lts.Need-sub-choose-2 (enter-reads.Asked, enter-reads.Learnt, known-reads.Asked, known-reads.Learnt, wide-reads.Asked, wide-reads.Learnt, choose-reads.Asked, choose-reads.Learnt, gather-below t, gather.Post, remember-reads.Asked, remember-reads.Learnt) (gather-at t) gather.Post gather-Inv-loop gather-μ-loop
+  sub-choose-2 : gather-lts.Need-sub-choose-2 (claims t) (gather-at t) gather.Post gather-Inv-loop gather-μ-loop
   sub-choose-2 c = omega arith
 
-  mul-choose : gather-lts.Need-mul-choose (enter-reads.Asked, enter-reads.Learnt, known-reads.Asked, known-reads.Learnt, wide-reads.Asked, wide-reads.Learnt, choose-reads.Asked, choose-reads.Learnt, gather-below t, gather.Post, remember-reads.Asked, remember-reads.Learnt) (gather-at t) gather.Post gather-Inv-loop gather-μ-loop
+  mul-choose : gather-lts.Need-mul-choose (claims t) (gather-at t) gather.Post gather-Inv-loop gather-μ-loop
   mul-choose c = omega arith
 
-  add-choose : gather-lts.Need-add-choose (enter-reads.Asked, enter-reads.Learnt, known-reads.Asked, known-reads.Learnt, wide-reads.Asked, wide-reads.Learnt, choose-reads.Asked, choose-reads.Learnt, gather-below t, gather.Post, remember-reads.Asked, remember-reads.Learnt) (gather-at t) gather.Post gather-Inv-loop gather-μ-loop
+  add-choose : gather-lts.Need-add-choose (claims t) (gather-at t) gather.Post gather-Inv-loop gather-μ-loop
   add-choose c = omega arith
 
-  mul-choose-2 : gather-lts.Need-mul-choose-2 (enter-reads.Asked, enter-reads.Learnt, known-reads.Asked, known-reads.Learnt, wide-reads.Asked, wide-reads.Learnt, choose-reads.Asked, choose-reads.Learnt, gather-below t, gather.Post, remember-reads.Asked, remember-reads.Learnt) (gather-at t) gather.Post gather-Inv-loop gather-μ-loop
+  mul-choose-2 : gather-lts.Need-mul-choose-2 (claims t) (gather-at t) gather.Post gather-Inv-loop gather-μ-loop
   mul-choose-2 c = omega (arith, c .before .before .before .before .before .before .before .before .before .before .before .before .pre .1 .ready .few)
 
-  shared-slice-read-choose : gather-lts.Need-shared-slice-read-choose (enter-reads.Asked, enter-reads.Learnt, known-reads.Asked, known-reads.Learnt, wide-reads.Asked, wide-reads.Learnt, choose-reads.Asked, choose-reads.Learnt, gather-below t, gather.Post, remember-reads.Asked, remember-reads.Learnt) (gather-at t) gather.Post gather-Inv-loop gather-μ-loop
+  shared-slice-read-choose : gather-lts.Need-shared-slice-read-choose (claims t) (gather-at t) gather.Post gather-Inv-loop gather-μ-loop
   shared-slice-read-choose c =
       let e = one-less (c .before .before .before .before .before .before .before .before .before .before .before .before .before .args .j) (c .before .before .before .before .before .before .before .before .if1 .left) in
       let q = rw e at (c .before .before .before .before .before .before .before .before .before .before .before .before .before .pre .1) in
       let z = q .ready .sizes (c .before .before .before .before .before .before .before .before .before .before .before .before .before .args .j - 1) (omega arith) in
       omega (arith, q .lists, q .ready .few)
 
-  choose-requires : gather-lts.Need-choose-requires (enter-reads.Asked, enter-reads.Learnt, known-reads.Asked, known-reads.Learnt, wide-reads.Asked, wide-reads.Learnt, choose-reads.Asked, choose-reads.Learnt, gather-below t, gather.Post, remember-reads.Asked, remember-reads.Learnt) (gather-at t) gather.Post gather-Inv-loop gather-μ-loop
+  choose-requires : gather-lts.Need-choose-requires (claims t) (gather-at t) gather.Post gather-Inv-loop gather-μ-loop
   choose-requires c κs =
       let e = one-less (c .before .before .before .before .before .before .before .before .before .before .before .before .before .before .args .j) (c .before .before .before .before .before .before .before .before .before .if1 .left) in
       let q = rw e at (c .before .before .before .before .before .before .before .before .before .before .before .before .before .before .pre .1) in
       (q .ready, omega (arith, q .ready .few), q .standing, c .before .before .before .loop .inv .1)
 
-  sub-gather : gather-lts.Need-sub-gather (enter-reads.Asked, enter-reads.Learnt, known-reads.Asked, known-reads.Learnt, wide-reads.Asked, wide-reads.Learnt, choose-reads.Asked, choose-reads.Learnt, gather-below t, gather.Post, remember-reads.Asked, remember-reads.Learnt) (gather-at t) gather.Post gather-Inv-loop gather-μ-loop
+  sub-gather : gather-lts.Need-sub-gather (claims t) (gather-at t) gather.Post gather-Inv-loop gather-μ-loop
   sub-gather c = omega arith
 
-  gather-requires : gather-lts.Need-gather-requires (enter-reads.Asked, enter-reads.Learnt, known-reads.Asked, known-reads.Learnt, wide-reads.Asked, wide-reads.Learnt, choose-reads.Asked, choose-reads.Learnt, gather-below t, gather.Post, remember-reads.Asked, remember-reads.Learnt) (gather-at t) gather.Post gather-Inv-loop gather-μ-loop
+  gather-requires : gather-lts.Need-gather-requires (claims t) (gather-at t) gather.Post gather-Inv-loop gather-μ-loop
   gather-requires c κs =
       let e = one-less (c .before .before .before .before .before .before .before .before .before .before .before .before .before .before .before .before .before .before .before .args .j) (c .before .before .before .before .before .before .before .before .before .before .before .before .before .before .if1 .left) in
       (omega arith, loop-request _ _ _ _ (rw e at (c .before .before .before .before .before .before .before .before .before .before .before .before .before .before .before .before .before .before .before .pre .1)) (c .before .before .before .before .before .before .before .before .loop .inv .0) (c .before .before .before .before .choose .ensures))
 
-  enum-told : gather-lts.Need-enum-told (enter-reads.Asked, enter-reads.Learnt, known-reads.Asked, known-reads.Learnt, wide-reads.Asked, wide-reads.Learnt, choose-reads.Asked, choose-reads.Learnt, gather-below t, gather.Post, remember-reads.Asked, remember-reads.Learnt) (gather-at t) gather.Post gather-Inv-loop gather-μ-loop
+  enum-told : gather-lts.Need-enum-told (claims t) (gather-at t) gather.Post gather-Inv-loop gather-μ-loop
   enum-told c = search needs
 
-  enum-told-2 : gather-lts.Need-enum-told-2 (enter-reads.Asked, enter-reads.Learnt, known-reads.Asked, known-reads.Learnt, wide-reads.Asked, wide-reads.Learnt, choose-reads.Asked, choose-reads.Learnt, gather-below t, gather.Post, remember-reads.Asked, remember-reads.Learnt) (gather-at t) gather.Post gather-Inv-loop gather-μ-loop
+  enum-told-2 : gather-lts.Need-enum-told-2 (claims t) (gather-at t) gather.Post gather-Inv-loop gather-μ-loop
   enum-told-2 c = search needs
 
-  enum-told-3 : gather-lts.Need-enum-told-3 (enter-reads.Asked, enter-reads.Learnt, known-reads.Asked, known-reads.Learnt, wide-reads.Asked, wide-reads.Learnt, choose-reads.Asked, choose-reads.Learnt, gather-below t, gather.Post, remember-reads.Asked, remember-reads.Learnt) (gather-at t) gather.Post gather-Inv-loop gather-μ-loop
+  enum-told-3 : gather-lts.Need-enum-told-3 (claims t) (gather-at t) gather.Post gather-Inv-loop gather-μ-loop
   enum-told-3 c = search needs
 
-  same-length-4 : gather-lts.Need-same-length-4 (enter-reads.Asked, enter-reads.Learnt, known-reads.Asked, known-reads.Learnt, wide-reads.Asked, wide-reads.Learnt, choose-reads.Asked, choose-reads.Learnt, gather-below t, gather.Post, remember-reads.Asked, remember-reads.Learnt) (gather-at t) gather.Post gather-Inv-loop gather-μ-loop
+  same-length-4 : gather-lts.Need-same-length-4 (claims t) (gather-at t) gather.Post gather-Inv-loop gather-μ-loop
   same-length-4 c =
       let e = one-less (c .before .before .before .before .before .before .before .before .before .before .before .before .before .before .before .before .before .before .before .before .before .before .before .before .before .before .before .before .args .j) (c .before .before .before .before .before .before .before .before .before .before .before .before .before .before .before .before .before .before .before .before .before .before .before .if1 .left) in
       let q = rw e at (c .before .before .before .before .before .before .before .before .before .before .before .before .before .before .before .before .before .before .before .before .before .before .before .before .before .before .before .before .pre .1) in
       c .before .before .before .before .before .before .before .before .gather .kept .1 .1 .1 .1 .0 ∙ loop-long-seen _ _ _ _ q (c .before .before .before .before .before .before .before .before .before .before .before .before .before .before .before .before .before .loop .inv .0)
 
-  same-length-5 : gather-lts.Need-same-length-5 (enter-reads.Asked, enter-reads.Learnt, known-reads.Asked, known-reads.Learnt, wide-reads.Asked, wide-reads.Learnt, choose-reads.Asked, choose-reads.Learnt, gather-below t, gather.Post, remember-reads.Asked, remember-reads.Learnt) (gather-at t) gather.Post gather-Inv-loop gather-μ-loop
+  same-length-5 : gather-lts.Need-same-length-5 (claims t) (gather-at t) gather.Post gather-Inv-loop gather-μ-loop
   same-length-5 c =
       let e = one-less (c .before .before .before .before .before .before .before .before .before .before .before .before .before .before .before .before .before .before .before .before .before .before .before .before .before .before .before .before .args .j) (c .before .before .before .before .before .before .before .before .before .before .before .before .before .before .before .before .before .before .before .before .before .before .before .if1 .left) in
       let q = rw e at (c .before .before .before .before .before .before .before .before .before .before .before .before .before .before .before .before .before .before .before .before .before .before .before .before .before .before .before .before .pre .1) in
       c .before .before .before .before .before .before .before .before .gather .kept .1 .1 .1 .1 .1 .0 ∙ loop-long _ _ _ _ q (c .before .before .before .before .before .before .before .before .before .before .before .before .before .before .before .before .before .loop .inv .0)
 
-  same-length-6 : gather-lts.Need-same-length-6 (enter-reads.Asked, enter-reads.Learnt, known-reads.Asked, known-reads.Learnt, wide-reads.Asked, wide-reads.Learnt, choose-reads.Asked, choose-reads.Learnt, gather-below t, gather.Post, remember-reads.Asked, remember-reads.Learnt) (gather-at t) gather.Post gather-Inv-loop gather-μ-loop
+  same-length-6 : gather-lts.Need-same-length-6 (claims t) (gather-at t) gather.Post gather-Inv-loop gather-μ-loop
   same-length-6 c =
       let e = one-less (c .before .before .before .before .before .before .before .before .before .before .before .before .before .before .before .before .before .before .before .before .before .before .before .before .before .before .before .before .args .j) (c .before .before .before .before .before .before .before .before .before .before .before .before .before .before .before .before .before .before .before .before .before .before .before .if1 .left) in
       let q = rw e at (c .before .before .before .before .before .before .before .before .before .before .before .before .before .before .before .before .before .before .before .before .before .before .before .before .before .before .before .before .pre .1) in
       c .before .before .before .before .before .before .before .before .gather .kept .1 .1 .1 .1 .1 .1 .0 ∙ loop-long-c _ _ _ _ q (c .before .before .before .before .before .before .before .before .before .before .before .before .before .before .before .before .before .loop .inv .0)
 
-  returns-3 : gather-lts.Need-returns-3 (enter-reads.Asked, enter-reads.Learnt, known-reads.Asked, known-reads.Learnt, wide-reads.Asked, wide-reads.Learnt, choose-reads.Asked, choose-reads.Learnt, gather-below t, gather.Post, remember-reads.Asked, remember-reads.Learnt) (gather-at t) gather.Post gather-Inv-loop gather-μ-loop
+  returns-3 : gather-lts.Need-returns-3 (claims t) (gather-at t) gather.Post gather-Inv-loop gather-μ-loop
   returns-3 c =
       let e = one-less (c .before .before .before .before .before .before .before .before .before .before .before .before .before .before .before .before .before .before .before .before .before .before .before .before .before .before .before .before .args .j) (c .before .before .before .before .before .before .before .before .before .before .before .before .before .before .before .before .before .before .before .before .before .before .before .if1 .left) in
       let q = rw e at (c .before .before .before .before .before .before .before .before .before .before .before .before .before .before .before .before .before .before .before .before .before .before .before .before .before .before .before .before .pre .1) in
       rw e (loop-full _ _ _ _ q (c .before .before .before .before .before .before .before .before .before .before .before .before .before .before .before .before .before .loop .inv .0) (c .before .before .before .before .before .before .before .before .before .before .before .before .before .choose .ensures) (omega arith) (c .before .before .before .before .before .before .before .before .gather .ensures) (c .enum-told3 .given .1))
 
-  add-i : gather-lts.Need-add-i (enter-reads.Asked, enter-reads.Learnt, known-reads.Asked, known-reads.Learnt, wide-reads.Asked, wide-reads.Learnt, choose-reads.Asked, choose-reads.Learnt, gather-below t, gather.Post, remember-reads.Asked, remember-reads.Learnt) (gather-at t) gather.Post gather-Inv-loop gather-μ-loop
+  add-i : gather-lts.Need-add-i (claims t) (gather-at t) gather.Post gather-Inv-loop gather-μ-loop
   add-i c = omega arith
 
-  loop-less : gather-lts.Need-loop-less (enter-reads.Asked, enter-reads.Learnt, known-reads.Asked, known-reads.Learnt, wide-reads.Asked, wide-reads.Learnt, choose-reads.Asked, choose-reads.Learnt, gather-below t, gather.Post, remember-reads.Asked, remember-reads.Learnt) (gather-at t) gather.Post gather-Inv-loop gather-μ-loop
+  loop-less : gather-lts.Need-loop-less (claims t) (gather-at t) gather.Post gather-Inv-loop gather-μ-loop
   loop-less c = omega arith
 
-  loop-again : gather-lts.Need-loop-again (enter-reads.Asked, enter-reads.Learnt, known-reads.Asked, known-reads.Learnt, wide-reads.Asked, wide-reads.Learnt, choose-reads.Asked, choose-reads.Learnt, gather-below t, gather.Post, remember-reads.Asked, remember-reads.Learnt) (gather-at t) gather.Post gather-Inv-loop gather-μ-loop
+  loop-again : gather-lts.Need-loop-again (claims t) (gather-at t) gather.Post gather-Inv-loop gather-μ-loop
   loop-again c =
       let e = one-less (c .before .before .before .before .before .before .before .before .before .before .before .before .before .before .before .before .before .before .before .before .before .before .before .before .before .before .before .args .j) (c .before .before .before .before .before .before .before .before .before .before .before .before .before .before .before .before .before .before .before .before .before .before .if1 .left) in
       let q = rw e at (c .before .before .before .before .before .before .before .before .before .before .before .before .before .before .before .before .before .before .before .before .before .before .before .before .before .before .before .pre .1) in
@@ -165,55 +169,55 @@ module _ (t : ℕ) where
         loop-state _ _ _ _ q h w,
       )
 
-  remember-requires : gather-lts.Need-remember-requires (enter-reads.Asked, enter-reads.Learnt, known-reads.Asked, known-reads.Learnt, wide-reads.Asked, wide-reads.Learnt, choose-reads.Asked, choose-reads.Learnt, gather-below t, gather.Post, remember-reads.Asked, remember-reads.Learnt) (gather-at t) gather.Post gather-Inv-loop gather-μ-loop
+  remember-requires : gather-lts.Need-remember-requires (claims t) (gather-at t) gather.Post gather-Inv-loop gather-μ-loop
   remember-requires c κs =
       let p = c .before .before .before .before .before .before .before .before .before .before .before .before .before .pre .1 in
       (omega (arith, p .ready .few), c .before .before .loop .inv .0 .seen .long, p .standing .state .long)
 
-  same-length-7 : gather-lts.Need-same-length-7 (enter-reads.Asked, enter-reads.Learnt, known-reads.Asked, known-reads.Learnt, wide-reads.Asked, wide-reads.Learnt, choose-reads.Asked, choose-reads.Learnt, gather-below t, gather.Post, remember-reads.Asked, remember-reads.Learnt) (gather-at t) gather.Post gather-Inv-loop gather-μ-loop
+  same-length-7 : gather-lts.Need-same-length-7 (claims t) (gather-at t) gather.Post gather-Inv-loop gather-μ-loop
   same-length-7 c =
       let e = one-less (c .before .before .before .before .before .before .before .before .before .before .before .before .before .before .before .before .before .args .j) (c .before .before .before .before .before .before .before .before .before .before .before .before .if1 .left) in
       let q = rw e at (c .before .before .before .before .before .before .before .before .before .before .before .before .before .before .before .before .before .pre .1) in
       c .before .before .before .remember .kept .0 ∙ loop-long-seen _ _ _ _ q (c .before .before .before .before .before .before .loop .inv .0)
 
-  same-length-8 : gather-lts.Need-same-length-8 (enter-reads.Asked, enter-reads.Learnt, known-reads.Asked, known-reads.Learnt, wide-reads.Asked, wide-reads.Learnt, choose-reads.Asked, choose-reads.Learnt, gather-below t, gather.Post, remember-reads.Asked, remember-reads.Learnt) (gather-at t) gather.Post gather-Inv-loop gather-μ-loop
+  same-length-8 : gather-lts.Need-same-length-8 (claims t) (gather-at t) gather.Post gather-Inv-loop gather-μ-loop
   same-length-8 c =
       let e = one-less (c .before .before .before .before .before .before .before .before .before .before .before .before .before .before .before .before .before .args .j) (c .before .before .before .before .before .before .before .before .before .before .before .before .if1 .left) in
       let q = rw e at (c .before .before .before .before .before .before .before .before .before .before .before .before .before .before .before .before .before .pre .1) in
       loop-long _ _ _ _ q (c .before .before .before .before .before .before .loop .inv .0)
 
-  same-length-9 : gather-lts.Need-same-length-9 (enter-reads.Asked, enter-reads.Learnt, known-reads.Asked, known-reads.Learnt, wide-reads.Asked, wide-reads.Learnt, choose-reads.Asked, choose-reads.Learnt, gather-below t, gather.Post, remember-reads.Asked, remember-reads.Learnt) (gather-at t) gather.Post gather-Inv-loop gather-μ-loop
+  same-length-9 : gather-lts.Need-same-length-9 (claims t) (gather-at t) gather.Post gather-Inv-loop gather-μ-loop
   same-length-9 c =
       let e = one-less (c .before .before .before .before .before .before .before .before .before .before .before .before .before .before .before .before .before .args .j) (c .before .before .before .before .before .before .before .before .before .before .before .before .if1 .left) in
       let q = rw e at (c .before .before .before .before .before .before .before .before .before .before .before .before .before .before .before .before .before .pre .1) in
       loop-long-c _ _ _ _ q (c .before .before .before .before .before .before .loop .inv .0)
 
-  returns-4 : gather-lts.Need-returns-4 (enter-reads.Asked, enter-reads.Learnt, known-reads.Asked, known-reads.Learnt, wide-reads.Asked, wide-reads.Learnt, choose-reads.Asked, choose-reads.Learnt, gather-below t, gather.Post, remember-reads.Asked, remember-reads.Learnt) (gather-at t) gather.Post gather-Inv-loop gather-μ-loop
+  returns-4 : gather-lts.Need-returns-4 (claims t) (gather-at t) gather.Post gather-Inv-loop gather-μ-loop
   returns-4 c =
       let e = one-less (c .before .before .before .before .before .before .before .before .before .before .before .before .before .before .before .before .before .args .j) (c .before .before .before .before .before .before .before .before .before .before .before .before .if1 .left) in
       let q = rw e at (c .before .before .before .before .before .before .before .before .before .before .before .before .before .before .before .before .before .pre .1) in
       let b : size-of (c .before .before .before .before .before .before .before .before .before .before .before .before .before .before .before .before .before .args .t1) (c .before .before .before .before .before .before .before .before .before .before .before .before .before .before .before .before .before .args .j - 1) ≤ c .before .before .before .before .before .before .loop .i = omega arith in
       rw e (loop-end-added _ _ _ _ q (c .before .before .before .before .before .before .loop .inv .0) b (c .if3 .taken) (rw e at (c .before .before .before .remember .ensures)))
 
-  same-length-10 : gather-lts.Need-same-length-10 (enter-reads.Asked, enter-reads.Learnt, known-reads.Asked, known-reads.Learnt, wide-reads.Asked, wide-reads.Learnt, choose-reads.Asked, choose-reads.Learnt, gather-below t, gather.Post, remember-reads.Asked, remember-reads.Learnt) (gather-at t) gather.Post gather-Inv-loop gather-μ-loop
+  same-length-10 : gather-lts.Need-same-length-10 (claims t) (gather-at t) gather.Post gather-Inv-loop gather-μ-loop
   same-length-10 c =
       let e = one-less (c .before .before .before .before .before .before .before .before .before .before .before .before .before .before .before .before .before .args .j) (c .before .before .before .before .before .before .before .before .before .before .before .before .if1 .left) in
       let q = rw e at (c .before .before .before .before .before .before .before .before .before .before .before .before .before .before .before .before .before .pre .1) in
       c .before .before .before .remember .kept .0 ∙ loop-long-seen _ _ _ _ q (c .before .before .before .before .before .before .loop .inv .0)
 
-  same-length-11 : gather-lts.Need-same-length-11 (enter-reads.Asked, enter-reads.Learnt, known-reads.Asked, known-reads.Learnt, wide-reads.Asked, wide-reads.Learnt, choose-reads.Asked, choose-reads.Learnt, gather-below t, gather.Post, remember-reads.Asked, remember-reads.Learnt) (gather-at t) gather.Post gather-Inv-loop gather-μ-loop
+  same-length-11 : gather-lts.Need-same-length-11 (claims t) (gather-at t) gather.Post gather-Inv-loop gather-μ-loop
   same-length-11 c =
       let e = one-less (c .before .before .before .before .before .before .before .before .before .before .before .before .before .before .before .before .before .args .j) (c .before .before .before .before .before .before .before .before .before .before .before .before .if1 .left) in
       let q = rw e at (c .before .before .before .before .before .before .before .before .before .before .before .before .before .before .before .before .before .pre .1) in
       loop-long _ _ _ _ q (c .before .before .before .before .before .before .loop .inv .0)
 
-  same-length-12 : gather-lts.Need-same-length-12 (enter-reads.Asked, enter-reads.Learnt, known-reads.Asked, known-reads.Learnt, wide-reads.Asked, wide-reads.Learnt, choose-reads.Asked, choose-reads.Learnt, gather-below t, gather.Post, remember-reads.Asked, remember-reads.Learnt) (gather-at t) gather.Post gather-Inv-loop gather-μ-loop
+  same-length-12 : gather-lts.Need-same-length-12 (claims t) (gather-at t) gather.Post gather-Inv-loop gather-μ-loop
   same-length-12 c =
       let e = one-less (c .before .before .before .before .before .before .before .before .before .before .before .before .before .before .before .before .before .args .j) (c .before .before .before .before .before .before .before .before .before .before .before .before .if1 .left) in
       let q = rw e at (c .before .before .before .before .before .before .before .before .before .before .before .before .before .before .before .before .before .pre .1) in
       loop-long-c _ _ _ _ q (c .before .before .before .before .before .before .loop .inv .0)
 
-  returns-5 : gather-lts.Need-returns-5 (enter-reads.Asked, enter-reads.Learnt, known-reads.Asked, known-reads.Learnt, wide-reads.Asked, wide-reads.Learnt, choose-reads.Asked, choose-reads.Learnt, gather-below t, gather.Post, remember-reads.Asked, remember-reads.Learnt) (gather-at t) gather.Post gather-Inv-loop gather-μ-loop
+  returns-5 : gather-lts.Need-returns-5 (claims t) (gather-at t) gather.Post gather-Inv-loop gather-μ-loop
   returns-5 c =
       let e = one-less (c .before .before .before .before .before .before .before .before .before .before .before .before .before .before .before .before .before .args .j) (c .before .before .before .before .before .before .before .before .before .before .before .before .if1 .left) in
       let q = rw e at (c .before .before .before .before .before .before .before .before .before .before .before .before .before .before .before .before .before .pre .1) in
@@ -221,4 +225,4 @@ module _ (t : ℕ) where
       rw e (loop-end-still _ _ _ _ q (c .before .before .before .before .before .before .loop .inv .0) b (c .if3 .left) (rw e at (c .before .before .before .remember .ensures)))
 
 pub +gather-spec : {M : Type 1} → statement M
-+gather-spec = close μ-gather (λ t. gather-lts.spec (enter-reads.Asked, enter-reads.Learnt, known-reads.Asked, known-reads.Learnt, wide-reads.Asked, wide-reads.Learnt, choose-reads.Asked, choose-reads.Learnt, gather-below t, gather.Post, remember-reads.Asked, remember-reads.Learnt) (gather-at t) gather.Post gather-Inv-loop gather-μ-loop (enter-requires t) (same-length t) (same-length-2 t) (returns t) (known-requires t) (same-length-3 t) (returns-2 t) (sub-wide t) (element-copy-out-wide t) (wide-requires t) (loop-holds t) (sub-choose t) (sub-choose-2 t) (mul-choose t) (add-choose t) (mul-choose-2 t) (shared-slice-read-choose t) (choose-requires t) (sub-gather t) (gather-requires t) (enum-told t) (enum-told-2 t) (enum-told-3 t) (same-length-4 t) (same-length-5 t) (same-length-6 t) (returns-3 t) (add-i t) (loop-less t) (loop-again t) (remember-requires t) (same-length-7 t) (same-length-8 t) (same-length-9 t) (returns-4 t) (same-length-10 t) (same-length-11 t) (same-length-12 t) (returns-5 t))
++gather-spec = close μ-gather (λ t. gather-lts.spec (claims t) (gather-at t) gather.Post gather-Inv-loop gather-μ-loop (enter-requires t) (same-length t) (same-length-2 t) (returns t) (known-requires t) (same-length-3 t) (returns-2 t) (sub-wide t) (element-copy-out-wide t) (wide-requires t) (loop-holds t) (sub-choose t) (sub-choose-2 t) (mul-choose t) (add-choose t) (mul-choose-2 t) (shared-slice-read-choose t) (choose-requires t) (sub-gather t) (gather-requires t) (enum-told t) (enum-told-2 t) (enum-told-3 t) (same-length-4 t) (same-length-5 t) (same-length-6 t) (returns-3 t) (add-i t) (loop-less t) (loop-again t) (remember-requires t) (same-length-7 t) (same-length-8 t) (same-length-9 t) (returns-4 t) (same-length-10 t) (same-length-11 t) (same-length-12 t) (returns-5 t))

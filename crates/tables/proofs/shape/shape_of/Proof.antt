@@ -2,7 +2,7 @@
 use borrow.Author.Needs.{needs}
 use Prim.Native.Nat.{_-_}
 use native.Mathlib.Omega.{arith}
-use Rattle.tables.specs.Fill.{max-slots}
+use Rattle.tables.specs.Shape.{max-slots}
 use Rattle.tables.proofs.Shapes.{Shaping, shape-begun, shape-turn}
 use Rattle.tables.proofs.shape.shape_of.Statement.{statement}
 use Rattle.tables.proofs.shape.shape_of.Tie as tie

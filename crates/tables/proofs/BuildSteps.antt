@@ -1,0 +1,98 @@
+-- The build of an accepted book: from what its passes and its tables leave to what the whole does.
+use mathlib.Core.Path.{_≡_, sym, ap₂, _∙_, subst}
+use mathlib.Core.Bool.{Bool, true, false}
+use mathlib.Core.List.{List, [], _∷_}
+use Prim.Native.Nat.{ℕ, _*_, _≤_, _<_}
+use native.Mathlib.Omega.{arith}
+use lib.ListN.{length}
+use Rattle.lists.specs.Refusals.{Said, accepted, refused}
+use Rattle.chains.specs.Limits.{max-members}
+use Rattle.chains.specs.Grammar.{Grammar}
+use Rattle.chains.specs.Plausible.{Plausible}
+use Rattle.chains.specs.Feasible.{Feasible}
+use Rattle.book.specs.Format.{kinds, grammar}
+use Rattle.book.specs.Reading.{Index}
+use Rattle.ranks.specs.Entries.{entry-bytes}
+use Rattle.tables.specs.Sets.{Holds}
+use Rattle.tables.specs.Entries.{UpTable, DownTable}
+use Rattle.tables.specs.Promise.{Lent, up-entries, down-entries, Written, wiped, BuildDue}
+use Rattle.tables.specs.Sweep.{Outcome}
+use Rattle.tables.specs.Sweep as sweep
+use Rattle.tables.specs.Fill.{Opened, Exact}
+use Rattle.tables.specs.declared.Built.{Built}
+use Rattle.tables.specs.declared.Built.the-variants.{Accepted, Refused}
+use Rattle.tables.specs.Answer.{said, lent}
+use Rattle.tables.specs.Making.{Ready, Settled, up-exceeds, down-exceeds, Tabled, Worked}
+use Rattle.tables.proofs.Holds.{holds-fine}
+use Rattle.tables.proofs.Exits.{refuse-plausible, refuse-feasible, tables-worked}
+use Rattle.tables.proofs.Building.{wiped-same, refused-wiped}
+
+-- ── the passes ──
+module _ {b : List ℕ} {m : Lent} (ready : Ready b m) where
+  pub opened : {places : List ℕ} → Index b places → Opened b places
+  opened i = record { book = ready .book; index = i }
+
+  pub worked-plausible : {s c : List ℕ} {r : Bool} (m′ : Lent) (a : Said) → Outcome (kinds b) (Plausible (grammar b)) (m .plausible) (m .plausible-counts) s c r
+      → r ≡ false → a ≡ refused 10 0 → Worked b m a m′
+  worked-plausible m′ a o e q = rw q (record { due = (refuse-plausible ready (o .over e), omega arith) })
+
+  module _ {s c : List ℕ} {r : Bool} (o : Outcome (kinds b) (Plausible (grammar b)) (m .plausible) (m .plausible-counts) s c r) (e : r ≡ true) where
+    pub plausible-held : sweep.Exact (kinds b) (Plausible (grammar b)) s c
+    plausible-held = record {
+      fine = holds-fine (ready .room .plausible) (ready .room .plausible-counts) (o .holds e);
+      whole = λ k x h. o .holds e .exactly k x h .1;
+    }
+
+    pub worked-feasible : {f d : List ℕ} {q : Bool} (m′ : Lent) (a : Said) → Outcome (kinds b) (Feasible (grammar b)) (m .feasible) (m .feasible-counts) f d q
+        → q ≡ false → a ≡ refused 11 0 → Worked b m a m′
+    worked-feasible m′ a p z y = rw y (record { due = (refuse-feasible ready (o .holds e) (p .over z), omega arith) })
+
+    module _ {f d : List ℕ} {q : Bool} (p : Outcome (kinds b) (Feasible (grammar b)) (m .feasible) (m .feasible-counts) f d q) (z : q ≡ true) where
+      pub settled : Settled b s c f d
+      settled = record {
+        plausible = record { fine = plausible-held .fine; whole = plausible-held .whole };
+        feasible = record {
+          fine = holds-fine (ready .room .feasible) (ready .room .feasible-counts) (p .holds z);
+          whole = λ k x h. p .holds z .exactly k x h .1;
+        };
+      }
+
+      pub worked-tables : (u w : List ℕ) (a : Said) → Tabled (grammar b) s c f d (m .up) (m .down) a u w → Worked b m a (lent s c f d u w)
+      worked-tables u w a t = record { due = tables-worked ready (o .holds e) (p .holds z) u w a (t .due) }
+
+-- ── the tables ──
+module _ (G : Grammar) (s c f d up down up′ down′ : List ℕ) where
+  pub tabled-up : (a : Said) → length up < up-entries G c → a ≡ refused 12 0 → Tabled G s c f d up down a up′ down′
+  tabled-up a l e = rw e (record { due = up-exceeds l })
+
+  pub tabled-down : (a : Said) → up-entries G c ≤ length up → length down < down-entries G c d * entry-bytes → a ≡ refused 13 0
+      → Tabled G s c f d up down a up′ down′
+  tabled-down a fits l e = rw e (record { due = down-exceeds fits l })
+
+  pub tabled : (u w : ℕ) → u ≡ up-entries G c → w ≡ down-entries G c d → up-entries G c ≤ length up → down-entries G c d * entry-bytes ≤ length down
+      → UpTable G s c up′ × Written (up-entries G c) up up′ → DownTable G s c f d down′ × Written (down-entries G c d * entry-bytes) down down′
+      → Tabled G s c f d up down (accepted (u ∷ w ∷ [])) up′ down′
+  tabled u w e e′ fits fits′ t t′ = record {
+    due = record {
+      counted = rw (e, e′);
+      up-fits = fits;
+      down-fits = fits′;
+      up = t .0;
+      up-rest = t .1;
+      down = t′ .0;
+      down-rest = t′ .1;
+    };
+  }
+
+-- ── the whole ──
+module _ (b : List ℕ) (m m′ : Lent) (r : Built) (worked : Worked b m (said r) m′) where
+  pub built-accepted : (u w : ℕ) → r ≡ Accepted u w → BuildDue b m (said (Accepted u w)) m′
+  built-accepted u w e = let known : Worked b m (said (Accepted u w)) m′ = rw e at worked in known .due
+
+  pub built-refused : (m″ : Lent) (n p : ℕ) → r ≡ Refused n p → length (m′ .plausible) ≡ length (m .plausible)
+      → length (m′ .plausible-counts) ≡ length (m .plausible-counts) → length (m′ .feasible) ≡ length (m .feasible)
+      → length (m′ .feasible-counts) ≡ length (m .feasible-counts) → length (m′ .up) ≡ length (m .up) → length (m′ .down) ≡ length (m .down)
+      → m″ ≡ wiped m′ → BuildDue b m (said (Refused n p)) m″
+  built-refused m″ n p e l₁ l₂ l₃ l₄ l₅ l₆ z =
+      let known : Worked b m (said (Refused n p)) m′ = rw e at worked in
+      refused-wiped b m m′ m″ n p (known .due) (wiped-same m m′ l₁ l₂ l₃ l₄ l₅ l₆) z

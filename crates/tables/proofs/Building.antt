@@ -1,0 +1,133 @@
+-- From the check of the book to the end of a build.
+use mathlib.Core.Path.{_≡_, refl, sym, ap, _∙_, subst}
+use mathlib.Core.Logic.{_⊎_, inl, inr}
+use mathlib.Core.Bool.{Bool, true, false}
+use mathlib.Core.List.{List, [], _∷_}
+use Prim.Native.Nat.{ℕ, _*_, _≤_, _<_}
+use native.Mathlib.Omega.{arith}
+use borrow.Author.Tests.{lt-ltb, le-ltb}
+use lib.Dec.{ltb}
+use lib.ListN.{length, replicate}
+use Rattle.lists.specs.Pick.{pick}
+use Rattle.lists.specs.Refusals.{Said, accepted, refused, Sooner, First}
+use Rattle.book.specs.Format.{kinds, prods, grammar}
+use Rattle.book.specs.Refusals as rows
+use Rattle.book.specs.declared.Checked.{Checked}
+use Rattle.book.specs.declared.Checked.the-variants as checks
+use Rattle.book.specs.Answer as checked
+use Rattle.book.proofs.Accepted.{accepted-book}
+use Rattle.tables.specs.declared.Built.{Built}
+use Rattle.tables.specs.declared.Built.the-variants.{Accepted, Refused}
+use Rattle.tables.specs.Promise.{Lent, Applies, of-book, short-slice, over-plausible, over-feasible, short-up, short-down, wiped, left-by, BuildDue}
+use Rattle.tables.specs.Answer.{said, lent}
+use Rattle.tables.specs.Making.{TooShort, Roomy, Measured, Lacking, Ready, WorkDue}
+use Rattle.tables.proofs.Exits.{FirstDue, refuse-room}
+use Rattle.tables.proofs.Promise.{build-once}
+
+-- ── the answer ──
+-- what an answer says is the whole of it
+pub said-once : (r s : Built) → said r ≡ said s → r ≡ s
+said-once (Accepted u w) (Accepted u′ w′) e = cc
+said-once (Accepted u w) (Refused n p) e = cc
+said-once (Refused n p) (Accepted u w) e = cc
+said-once (Refused n p) (Refused n′ p′) e = cc
+
+-- THEOREM: two outcomes of a build that keep its promise are one, answer and memory
+pub built-once : (b : List ℕ) (m : Lent) (r r′ : Built) (m₁ m₂ : Lent) → BuildDue b m (said r) m₁ → BuildDue b m (said r′) m₂ → (r ≡ r′) × (m₁ ≡ m₂)
+built-once b m r r′ m₁ m₂ d d′ = let (e, f) = build-once b m (said r) (said r′) m₁ m₂ d d′ in (said-once r r′ e, f)
+
+-- ── the memory ──
+pub lents : (s c f d u w s′ c′ f′ d′ u′ w′ : List ℕ) → s ≡ s′ → c ≡ c′ → f ≡ f′ → d ≡ d′ → u ≡ u′ → w ≡ w′ → lent s c f d u w ≡ lent s′ c′ f′ d′ u′ w′
+lents s c f d u w s′ c′ f′ d′ u′ w′ e₁ e₂ e₃ e₄ e₅ e₆ = rw (e₁, e₂, e₃, e₄, e₅, e₆) refl
+
+-- lengths are all that wiping looks at
+pub wiped-same : (m m′ : Lent) → length (m′ .plausible) ≡ length (m .plausible) → length (m′ .plausible-counts) ≡ length (m .plausible-counts)
+    → length (m′ .feasible) ≡ length (m .feasible) → length (m′ .feasible-counts) ≡ length (m .feasible-counts)
+    → length (m′ .up) ≡ length (m .up) → length (m′ .down) ≡ length (m .down) → wiped m′ ≡ wiped m
+wiped-same m m′ a b c d e f = rw (a, b, c, d, e, f) refl
+
+left-early : (n : ℕ) (m : Lent) → n < 9 → m ≡ left-by n m
+left-early n m h = rw (lt-ltb n 10 (omega arith)) refl
+
+left-late : (n : ℕ) (m : Lent) → 9 < n → wiped m ≡ left-by n m
+left-late n m h = rw (le-ltb n 10 (omega arith)) refl
+
+-- ── room for the sets ──
+pub measured-short : {n a b c d : ℕ} → TooShort n a b c d → Measured n a b c d true
+measured-short h = record { short = λ e. h; roomy = λ e. let z : _≡_ {A = ℕ} 0 1 = cc in absurd (omega arith) }
+
+pub measured-roomy : {n a b c d : ℕ} → Roomy n a b c d → Measured n a b c d false
+measured-roomy r = record { short = λ e. let z : _≡_ {A = ℕ} 0 1 = cc in absurd (omega arith); roomy = λ e. r }
+
+-- ── the check of the book refuses ──
+book-row : {b : List ℕ} {n p : ℕ} → rows.Applies b n p → n < 9
+book-row (rows.short h) = omega arith
+book-row (rows.other-edition h) = omega arith
+book-row (rows.out-of-range h) = omega arith
+book-row (rows.not-laid h) = omega arith
+book-row (rows.bad-kind k h l) = omega arith
+book-row (rows.bad-kids p h l) = omega arith
+book-row (rows.bad-ties p h l) = omega arith
+book-row (rows.headless k h l) = omega arith
+
+-- a row of the build that is not later than one of the book is of the book
+sooner-row : {n p n′ p′ : ℕ} → Sooner (rows.turn (n, p)) (rows.turn (n′, p′)) → n ≤ n′
+sooner-row (inl h) = omega arith
+sooner-row (inr (e, h)) = omega arith
+
+early-row : {b : List ℕ} {m : Lent} {n p : ℕ} → n < 9 → Applies b m n p → rows.Applies b n p
+early-row h (of-book a) = a
+early-row h (short-slice a) = absurd (omega arith)
+early-row h (over-plausible a) = absurd (omega arith)
+early-row h (over-feasible a) = absurd (omega arith)
+early-row h (short-up c a l) = absurd (omega arith)
+early-row h (short-down c d a a′ l) = absurd (omega arith)
+
+first-of-book : {b : List ℕ} {m : Lent} (n p : ℕ) → First rows.turn (λ f. rows.Applies b (f .0) (f .1)) (n, p) → FirstDue b m n p
+first-of-book n p (a, before) = (of-book a, λ j s u. let l = sooner-row s in let h = book-row a in before j s (early-row (omega arith) u))
+
+-- THEOREM: refusals 1 to 8 are those of the check, and leave the memory as it came
+pub refused-book : (b : List ℕ) (m : Lent) (n p : ℕ) → rows.BookDue b (refused n p) → BuildDue b m (refused n p) m
+refused-book b m n p ((n′, p′), e, e′, f) =
+    let g : First rows.turn (λ f. rows.Applies b (f .0) (f .1)) (n, p) = rw (← e, ← e′) f in
+    (first-of-book n p g, left-early n m (book-row (g .0)))
+
+-- ── the check accepts ──
+module _ {b : List ℕ} {x y : ℕ} (due : rows.BookDue b (accepted (x ∷ y ∷ []))) where
+  pub clean-book : (n p : ℕ) → rows.Applies b n p → ⊥
+  clean-book n p = due .1 (n, p)
+
+  pub kinds-told : x ≡ kinds b
+  kinds-told = accepted-book b x y due .1
+
+  -- THEOREM: refusal 9 leaves the memory as it came
+  pub refused-room : (m : Lent) → Lacking b m → BuildDue b m (refused 9 0) m
+  refused-room m l = (refuse-room clean-book l, refl)
+
+  pub ready-book : (m : Lent) → Roomy (kinds b) (length (m .plausible)) (length (m .plausible-counts)) (length (m .feasible)) (length (m .feasible-counts)) → Ready b m
+  ready-book m r = record { book = accepted-book b x y due .0; clean = clean-book; room = r }
+
+-- ── the build goes on ──
+-- THEOREM: a refusal after the sets are begun leaves all memory wiped
+pub refused-wiped : (b : List ℕ) (m m′ m″ : Lent) (n p : ℕ) → WorkDue b m (refused n p) m′ → wiped m′ ≡ wiped m → m″ ≡ wiped m′ → BuildDue b m (refused n p) m″
+refused-wiped b m m′ m″ n p (f, l) e e′ = (f, e′ ∙ e ∙ left-late n m l)
+
+-- ── the answer of the check, taken apart ──
+module _ (b : List ℕ) (m : Lent) (r : Checked) (due : rows.BookDue b (checked.said r)) where
+  pub built-of-book : (n p : ℕ) → r ≡ checks.Refused n p → BuildDue b m (said (Refused n p)) m
+  built-of-book n p e = refused-book b m n p (rw e at due)
+
+  -- the kinds k, measured against the lent memory
+  module _ (x y : ℕ) (e : r ≡ checks.Accepted x y) (k : ℕ) (same : k ≡ x) (short : Bool)
+      (size : Measured k (length (m .plausible)) (length (m .plausible-counts)) (length (m .feasible)) (length (m .feasible-counts)) short) where
+    accepted-due : rows.BookDue b (accepted (x ∷ y ∷ []))
+    accepted-due = rw e at due
+
+    sized : Measured (kinds b) (length (m .plausible)) (length (m .plausible-counts)) (length (m .feasible)) (length (m .feasible-counts)) short
+    sized = rw (same ∙ kinds-told accepted-due) at size
+
+    pub built-short : (a : Said) → short ≡ true → a ≡ refused 9 0 → BuildDue b m a m
+    built-short a h q = rw q (refused-room accepted-due m (sized .short h))
+
+    pub built-ready : short ≡ false → Ready b m
+    built-ready h = ready-book accepted-due m (sized .roomy h)

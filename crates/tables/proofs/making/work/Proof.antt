@@ -1,0 +1,117 @@
+-- The passes one behind the other, and the tables over what they leave.
+use borrow.Author.Tests.{not-true, not-false}
+use Rattle.tables.proofs.BuildSteps.{opened, worked-plausible, plausible-held, worked-feasible, settled, worked-tables}
+use borrow.Author.Needs.{needs}
+use Rattle.tables.proofs.making.work.Statement.{statement}
+use Rattle.tables.proofs.making.work.Tie as tie
+use Rattle.tables.proofs.making.work.Reads as reads
+use Rattle.tables.proofs.making.work.Lts as lts
+use Rattle.book.proofs.index.Reads as index-reads
+use Rattle.tables.proofs.making.refused.Reads as refused-reads
+use Rattle.tables.proofs.making.write_tables.Reads as write-tables-reads
+use Rattle.tables.proofs.downward.downward.Reads as downward-reads
+use Rattle.tables.proofs.upward.upward.Reads as upward-reads
+
+index-requires : tie.Need-index-requires
+index-requires c κs = search needs
+
+slice-aggregate-upward : tie.Need-slice-aggregate-upward
+slice-aggregate-upward c = search needs
+
+upward-requires : tie.Need-upward-requires
+upward-requires c κs = search needs
+
+refused-requires : tie.Need-refused-requires
+refused-requires c κs = search needs
+
+same-length : tie.Need-same-length
+same-length c = search needs
+
+same-length-2 : tie.Need-same-length-2
+same-length-2 c = search needs
+
+returns : tie.Need-returns
+returns c =
+    worked-plausible (c .before .before .before .before .before .before .before .before .before .before .before .before .before .before .before .before .before .before .pre) _ _ (c .before .before .before .before .before .before .upward .ensures) (not-true _ (c .before .if1 .taken)) (c .refused .ensures)
+
+slice-aggregate-downward : tie.Need-slice-aggregate-downward
+slice-aggregate-downward c = search needs
+
+downward-requires : tie.Need-downward-requires
+downward-requires c κs =
+    let ready = c .before .before .before .before .before .before .before .before .before .before .before .before .before .before .before .before .before .before .before .before .before .before .pre in
+    (ready .book, c .before .before .before .before .before .before .before .before .before .before .before .before .before .before .index .ensures, plausible-held ready (c .before .before .before .before .before .before .before .before .before .before .upward .ensures) (not-false _ (c .before .before .before .before .before .if1 .left)), ready .room .feasible, ready .room .feasible-counts)
+
+refused-requires-2 : tie.Need-refused-requires-2
+refused-requires-2 c κs = search needs
+
+same-length-3 : tie.Need-same-length-3
+same-length-3 c = search needs
+
+same-length-4 : tie.Need-same-length-4
+same-length-4 c = search needs
+
+same-length-5 : tie.Need-same-length-5
+same-length-5 c = search needs
+
+same-length-6 : tie.Need-same-length-6
+same-length-6 c = search needs
+
+returns-2 : tie.Need-returns-2
+returns-2 c =
+    worked-feasible (c .before .before .before .before .before .before .before .before .before .before .before .before .before .before .before .before .before .before .before .before .before .before .before .before .before .before .before .before .before .pre) (c .before .before .before .before .before .before .before .before .before .before .before .before .before .before .before .before .before .upward .ensures) (not-false _ (c .before .before .before .before .before .before .before .before .before .before .before .before .if1 .left)) _ _ (c .before .before .before .before .before .before .downward .ensures) (not-true _ (c .before .if2 .taken)) (c .refused2 .ensures)
+
+write-tables-requires : tie.Need-write-tables-requires
+write-tables-requires c κs =
+    let ready = c .before .before .before .before .before .before .before .before .before .before .before .before .before .before .before .before .before .before .before .before .before .before .before .before .before .before .before .before .before .before .before .before .before .before .before .pre in
+    (opened ready (c .before .before .before .before .before .before .before .before .before .before .before .before .before .before .before .before .before .before .before .before .before .before .before .before .before .before .before .index .ensures), settled ready (c .before .before .before .before .before .before .before .before .before .before .before .before .before .before .before .before .before .before .before .before .before .before .before .upward .ensures) (not-false _ (c .before .before .before .before .before .before .before .before .before .before .before .before .before .before .before .before .before .before .if1 .left)) (c .before .before .before .before .before .before .before .before .before .before .before .before .downward .ensures) (not-false _ (c .before .before .before .before .before .before .before .if2 .left)))
+
+same-length-7 : tie.Need-same-length-7
+same-length-7 c = search needs
+
+same-length-8 : tie.Need-same-length-8
+same-length-8 c = search needs
+
+same-length-9 : tie.Need-same-length-9
+same-length-9 c = search needs
+
+same-length-10 : tie.Need-same-length-10
+same-length-10 c = search needs
+
+same-length-11 : tie.Need-same-length-11
+same-length-11 c = search needs
+
+same-length-12 : tie.Need-same-length-12
+same-length-12 c = search needs
+
+returns-3 : tie.Need-returns-3
+returns-3 c =
+    worked-tables (c .before .before .before .before .before .before .before .before .before .before .before .before .before .before .before .before .before .before .before .before .before .before .before .before .before .before .before .before .before .before .before .before .before .before .before .before .before .before .before .before .pre) (c .before .before .before .before .before .before .before .before .before .before .before .before .before .before .before .before .before .before .before .before .before .before .before .before .before .before .before .before .upward .ensures) (not-false _ (c .before .before .before .before .before .before .before .before .before .before .before .before .before .before .before .before .before .before .before .before .before .before .before .if1 .left)) (c .before .before .before .before .before .before .before .before .before .before .before .before .before .before .before .before .before .downward .ensures) (not-false _ (c .before .before .before .before .before .before .before .before .before .before .before .before .if2 .left)) _ _ _ (c .before .before .before .before .write-tables .ensures)
+
+pub work-spec : {M : Type 1} → statement M
+work-spec =
+    tie.close
+    (tie.spec
+    index-requires
+    slice-aggregate-upward
+    upward-requires
+    refused-requires
+    same-length
+    same-length-2
+    returns
+    slice-aggregate-downward
+    downward-requires
+    refused-requires-2
+    same-length-3
+    same-length-4
+    same-length-5
+    same-length-6
+    returns-2
+    write-tables-requires
+    same-length-7
+    same-length-8
+    same-length-9
+    same-length-10
+    same-length-11
+    same-length-12
+    returns-3)

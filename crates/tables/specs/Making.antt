@@ -1,0 +1,82 @@
+-- The build as it goes on, from an accepted book. No promise of the library cites this page.
+use mathlib.Core.Path.{_≡_}
+use mathlib.Core.Logic.{_⊎_}
+use mathlib.Core.Bool.{Bool, true, false}
+use mathlib.Core.List.{List, [], _∷_}
+use Prim.Native.Nat.{ℕ, _*_, _≤_, _<_}
+use lib.ListN.{length}
+use Rattle.lists.specs.Refusals.{Said, accepted, refused, First}
+use Rattle.chains.specs.Limits.{max-members}
+use Rattle.chains.specs.Grammar.{Grammar}
+use Rattle.chains.specs.Plausible.{Plausible}
+use Rattle.chains.specs.Feasible.{Feasible}
+use Rattle.book.specs.Format.{kinds, grammar}
+use Rattle.book.specs.Refusals as rows
+use Rattle.book.proofs.Accepted.{Accepted}
+use Rattle.ranks.specs.Entries.{entry-bytes}
+use Rattle.tables.specs.Entries.{UpTable, DownTable}
+use Rattle.tables.specs.Promise.{Lent, up-entries, down-entries, Applies, Written, Built}
+use Rattle.tables.specs.Fill.{Exact}
+
+-- ── room ──
+-- by their lengths, sets or counts have too few places for n kinds
+abbrev pub TooShort : (n plausible plausible-counts feasible feasible-counts : ℕ) → Type 0
+TooShort n a b c d = (a < n * max-members) ⊎ (b < n) ⊎ (c < n * max-members) ⊎ (d < n)
+
+-- or enough
+pub record Roomy (n a b c d : ℕ) : Type 0 where
+  pub plausible : n * max-members ≤ a
+  pub plausible-counts : n ≤ b
+  pub feasible : n * max-members ≤ c
+  pub feasible-counts : n ≤ d
+
+-- r tells which
+pub record Measured (n a b c d : ℕ) (r : Bool) : Type 0 where
+  pub short : r ≡ true → TooShort n a b c d
+  pub roomy : r ≡ false → Roomy n a b c d
+
+-- the memory m has too few places for the sets of the book b
+abbrev pub Lacking : List ℕ → Lent → Type 0
+Lacking b m = TooShort (kinds b) (length (m .plausible)) (length (m .plausible-counts)) (length (m .feasible)) (length (m .feasible-counts))
+
+-- ── the book is accepted, and the lent memory m is roomy enough for the sets ──
+pub record Ready (b : List ℕ) (m : Lent) : Type 0 where
+  pub book : Accepted b
+  pub clean : (n p : ℕ) → rows.Applies b n p → ⊥
+  pub room : Roomy (kinds b) (length (m .plausible)) (length (m .plausible-counts)) (length (m .feasible)) (length (m .feasible-counts))
+
+-- both sets hold what they are to hold
+pub record Settled (b s c f d : List ℕ) : Type 0 where
+  pub plausible : Exact (kinds b) (Plausible (grammar b)) s c
+  pub feasible : Exact (kinds b) (Feasible (grammar b)) f d
+
+-- ── the tables ──
+-- the entries exceed their slices, of the lengths u and w: the refusal's number and place
+pub data Exceeds (G : Grammar) (c d : List ℕ) (u w : ℕ) : ℕ → ℕ → Type 0 where
+  up-exceeds : u < up-entries G c → Exceeds G c d u w 12 0
+  down-exceeds : up-entries G c ≤ u → w < down-entries G c d * entry-bytes → Exceeds G c d u w 13 0
+
+-- or both are written
+pub record Tables (G : Grammar) (s c f d u w u′ w′ counts : List ℕ) : Type 0 where
+  pub counted : counts ≡ up-entries G c ∷ down-entries G c d ∷ []
+  pub up-fits : up-entries G c ≤ length u
+  pub down-fits : down-entries G c d * entry-bytes ≤ length w
+  pub up : UpTable G s c u′
+  pub up-rest : Written (up-entries G c) u u′
+  pub down : DownTable G s c f d w′
+  pub down-rest : Written (down-entries G c d * entry-bytes) w w′
+
+abbrev pub TablesDue : (G : Grammar) (s c f d u w : List ℕ) → Said → (u′ w′ : List ℕ) → Type 0
+TablesDue G s c f d u w (accepted counts) u′ w′ = Tables G s c f d u w u′ w′ counts
+TablesDue G s c f d u w (refused n p) u′ w′ = Exceeds G c d (length u) (length w) n p
+
+pub record Tabled (G : Grammar) (s c f d u w : List ℕ) (a : Said) (u′ w′ : List ℕ) : Type 0 where
+  pub due : TablesDue G s c f d u w a u′ w′
+
+-- ── the whole, before a refusal's memory is wiped ──
+abbrev pub WorkDue : List ℕ → Lent → Said → Lent → Type 0
+WorkDue b m (accepted counts) m′ = ((n p : ℕ) → Applies b m n p → ⊥) × Built (grammar b) m m′ counts
+WorkDue b m (refused n p) m′ = First rows.turn (λ f. Applies b m (f .0) (f .1)) (n, p) × (9 < n)
+
+pub record Worked (b : List ℕ) (m : Lent) (a : Said) (m′ : Lent) : Type 0 where
+  pub due : WorkDue b m a m′

@@ -1,0 +1,168 @@
+// The build of an accepted book: the two passes, then the two tables; what a refusal leaves is wiped.
+ghost use mathlib.Core.Path.{_≡_};
+ghost use Prim.Native.Nat.{_*_, _<_, _≤_};
+ghost use lib.ListN.{length};
+ghost use Rattle.lists.specs.Refusals.{refused};
+ghost use Rattle.book.specs.Format.{grammar};
+ghost use Rattle.tables.specs.Promise.{BuildDue};
+ghost use Rattle.tables.specs.Promise.{wiped};
+ghost use Rattle.tables.specs.Answer.{said, lent};
+ghost use Rattle.tables.specs.Fill.{Opened};
+ghost use Rattle.tables.specs.Making.{Measured, Ready, Settled, Tabled, Worked};
+use super::Built;
+use super::downward::downward;
+use super::fill::fill_down;
+use super::fill::fill_up;
+use super::sets::MAX_MEMBERS;
+use super::sets::wipe8;
+use super::totals::total_down;
+use super::totals::total_up;
+use super::upward::upward;
+
+// Bytes of a down entry.
+const ENTRY: u64 = 44;
+
+pub fn span(x: u16) -> usize
+    ensures { λ r. ⌜ (r ≡ x) × (r < 65536) ⌝ }
+{
+    x as usize
+}
+
+fn long(x: usize) -> u64
+    ensures { λ r. ⌜ r ≡ x ⌝ }
+{
+    x as u64
+}
+
+// A refusal that names no place.
+pub fn refused(number: u8) -> Built
+    ensures { λ r. ⌜ said r ≡ refused number 0 ⌝ }
+{
+    Built::Refused { number, place: 0 }
+}
+
+use super::sets::wipe32;
+
+// Whether some set slice has too few places for n kinds, or some count slice.
+pub fn too_short(n: usize, plausible: usize, counts: usize, feasible: usize, tally: usize) -> bool
+    requires { ⌜ n < 65536 ⌝ }
+    ensures { λ r. ⌜ Measured n plausible counts feasible tally r ⌝ }
+{
+    if plausible < n * MAX_MEMBERS {
+        return true;
+    }
+    if counts < n {
+        return true;
+    }
+    if feasible < n * MAX_MEMBERS {
+        return true;
+    }
+    if tally < n {
+        return true;
+    }
+    false
+}
+
+// All lent memory becomes zero throughout.
+fn wipe(
+    plausible: &mut [u32],
+    counts: &mut [u8],
+    feasible: &mut [u32],
+    tally: &mut [u8],
+    up: &mut [u8],
+    down: &mut [u8],
+)
+    ensures { λ _. ⌜ lent (now (plausible .exit)) (now (counts .exit)) (now (feasible .exit)) (now (tally .exit)) (now (up .exit)) (now (down .exit))
+        ≡ wiped (lent (now (plausible .entry)) (now (counts .entry)) (now (feasible .entry)) (now (tally .entry)) (now (up .entry)) (now (down .entry))) ⌝ }
+{
+    wipe32(plausible);
+    wipe8(counts);
+    wipe32(feasible);
+    wipe8(tally);
+    wipe8(up);
+    wipe8(down);
+}
+
+// Both tables, over the sets as they stand; nothing is written unless both fit.
+fn write_tables(
+    book: &[u8],
+    places: &[usize; book::limits::MAX_PRODUCTIONS as usize],
+    plausible: &[u32],
+    counts: &[u8],
+    feasible: &[u32],
+    tally: &[u8],
+    up: &mut [u8],
+    down: &mut [u8],
+) -> Built
+    requires { ⌜ Opened (now book) (now places) × Settled (now book) (now plausible) (now counts) (now feasible) (now tally) ⌝ }
+    ensures { λ r. ⌜ Tabled (grammar (now (book .entry))) (now (plausible .entry)) (now (counts .entry)) (now (feasible .entry)) (now (tally .entry))
+        (now (up .entry)) (now (down .entry)) (said r) (now (up .exit)) (now (down .exit)) ⌝ }
+{
+    let ups = total_up(book, places, counts);
+    if long(up.len()) < ups {
+        return refused(12);
+    }
+    let downs = total_down(book, places, counts, tally);
+    if long(down.len()) / ENTRY < downs {
+        return refused(13);
+    }
+    fill_up(book, places, plausible, counts, up);
+    fill_down(book, places, plausible, counts, feasible, tally, down);
+    Built::Accepted {
+        up: ups,
+        down: downs,
+    }
+}
+
+// The two passes, then the tables. What a refusal leaves in the memory is not said.
+fn work(
+    book: &[u8],
+    plausible: &mut [u32],
+    counts: &mut [u8],
+    feasible: &mut [u32],
+    tally: &mut [u8],
+    up: &mut [u8],
+    down: &mut [u8],
+) -> Built
+    requires { ⌜ Ready (now book) (lent (now plausible) (now counts) (now feasible) (now tally) (now up) (now down)) ⌝ }
+    ensures { λ r. ⌜ Worked (now (book .entry)) (lent (now (plausible .entry)) (now (counts .entry)) (now (feasible .entry)) (now (tally .entry)) (now (up .entry)) (now (down .entry)))
+        (said r) (lent (now (plausible .exit)) (now (counts .exit)) (now (feasible .exit)) (now (tally .exit)) (now (up .exit)) (now (down .exit))) ⌝ }
+{
+    let places = book::index(book);
+    if !upward(book, &places, plausible, counts) {
+        return refused(10);
+    }
+    if !downward(book, &places, plausible, counts, feasible, tally) {
+        return refused(11);
+    }
+    write_tables(book, &places, plausible, counts, feasible, tally, up, down)
+}
+
+// The same, with all memory wiped after a refusal.
+pub fn run(
+    book: &[u8],
+    plausible: &mut [u32],
+    counts: &mut [u8],
+    feasible: &mut [u32],
+    tally: &mut [u8],
+    up: &mut [u8],
+    down: &mut [u8],
+) -> Built
+    requires { ⌜ Ready (now book) (lent (now plausible) (now counts) (now feasible) (now tally) (now up) (now down)) ⌝ }
+    ensures { λ r. ⌜ BuildDue (now (book .entry)) (lent (now (plausible .entry)) (now (counts .entry)) (now (feasible .entry)) (now (tally .entry)) (now (up .entry)) (now (down .entry)))
+        (said r) (lent (now (plausible .exit)) (now (counts .exit)) (now (feasible .exit)) (now (tally .exit)) (now (up .exit)) (now (down .exit))) ⌝ }
+{
+    match work(book, plausible, counts, feasible, tally, up, down) {
+        Built::Accepted {
+            up: ups,
+            down: downs,
+        } => Built::Accepted {
+            up: ups,
+            down: downs,
+        },
+        Built::Refused { number, place } => {
+            wipe(plausible, counts, feasible, tally, up, down);
+            Built::Refused { number, place }
+        }
+    }
+}
