@@ -35,12 +35,6 @@ pub mod Exits
 pub mod Building
 pub mod DownwardVisit
 pub mod DownwardSweep
-pub mod Shapes
-pub mod EntryCounts
-pub mod FillRuns
-pub mod FillEntry
-pub mod FillChoices
-pub mod FillState
 pub mod FillUp
 pub mod FillDown
 pub mod Seeding

@@ -13,4 +13,3 @@ pub mod Fill
 pub mod Answer
 pub mod Making
 pub mod Downward
-pub mod Fill
