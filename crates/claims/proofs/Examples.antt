@@ -64,7 +64,7 @@ unfolding entry
 bytes-left = refuse (0 ∷ 1 ∷ 3 ∷ 3 ∷ []) (omega arith) (omega arith) (record {
   awaited = [];
   was-due = further (further (further (begins (0 ∷ 1 ∷ 3 ∷ 3 ∷ [])) (omega arith) (omega arith, refl) (omega arith) refl) (omega arith) (omega arith, refl) (omega arith) refl)
-    (omega arith) (omega arith, refl) (omega arith) refl;
+      (omega arith) (omega arith, refl) (omega arith) refl;
   fault = unfit (omega arith);
   lowest = only-22 (λ h. omega arith);
 })
@@ -124,37 +124,64 @@ module _ (p q r : ℕ) (drawn : Drawn G (p ∷ q ∷ r ∷ []) (tower p q r)) (s
 
   grouped-so : Claim (grouped l (3 ∷ 10 ∷ count ∷ []) nodes groups)
   grouped-so m made due =
-      subst (λ t. CallDue book l (tables-of t) lent (accepted (3 ∷ 10 ∷ count ∷ [])) (record { nodes = nodes; groups = groups })) (left-only m made due)
-      (no-row figure-built (taken-whole figure-built) before-25, record {
-        of = record { tree = tower p q r; kinded = drawn .kinded; reads = refl };
-        nodes = rw nine (sym (append-nil (places G (tables-of left) (tower p q r) (started G (tables-of left) (tower p q r))) ∙ told));
-        groups = rw (settings, ten) (sym (append-nil (group-numbers G (tables-of left) (tower p q r) .list) ∙ numbers));
-        counted = rw (settings, next) refl;
-      })
+      subst (λ t. CallDue book l (tables-of t) lent (accepted (3 ∷ 10 ∷ count ∷ [])) (record { nodes = nodes; groups = groups })) (left-only m made due) (
+        no-row figure-built (taken-whole figure-built) before-25,
+        record {
+          of = record { tree = tower p q r; kinded = drawn .kinded; reads = refl };
+          nodes = rw nine (sym (append-nil (places G (tables-of left) (tower p q r) (started G (tables-of left) (tower p q r))) ∙ told));
+          groups = rw (settings, ten) (sym (append-nil (group-numbers G (tables-of left) (tower p q r) .list) ∙ numbers));
+          counted = rw (settings, next) refl;
+        },
+      )
 
 -- THEOREM: every row of the table holds
 pub examples-hold : AllHold table
 unfolding entry settings-of ranks places numbered unused slot-labels kid-labels walk root-entry root-labels choices choice up-start down-start
 examples-hold = (
-  (two-rise, plausible-exactly 0), (
-  (three-rise, plausible-exactly 1), (
-  (two-of-Y-rise, plausible-exactly 2), (
-  (two-rise, feasible-exactly 0), (
-  (three-rise, feasible-exactly 1), (
-  (three-rise, feasible-exactly 2), (
-  (left, figure-built), (
-  grouped-so 0 1 3 (record {
-    kinded = ((omega arith, refl), ((omega arith, refl), ((omega arith, refl), tt, tt), tt), tt);
-    shallow = (omega arith, (omega arith, (omega arith, tt, tt), tt), tt);
-    bytes = refl;
-  }) refl _ _ _ refl refl refl refl refl, (
-  grouped-so 0 2 4 (record {
-    kinded = ((omega arith, refl), ((omega arith, refl), ((omega arith, refl), tt, tt), tt), tt);
-    shallow = (omega arith, (omega arith, (omega arith, tt, tt), tt), tt);
-    bytes = refl;
-  }) refl _ _ _ refl refl refl refl refl, (
-  ends-early, (
-  bytes-left, (
-  no-production, (
-  wrong-kind,
-  tt)))))))))))))
+  (two-rise, plausible-exactly 0),
+  (
+    (three-rise, plausible-exactly 1),
+    (
+      (two-of-Y-rise, plausible-exactly 2),
+      (
+        (two-rise, feasible-exactly 0),
+        (
+          (three-rise, feasible-exactly 1),
+          (
+            (three-rise, feasible-exactly 2),
+            (
+              (left, figure-built),
+              (
+                grouped-so 0 1 3 (record {
+                  kinded = ((omega arith, refl), ((omega arith, refl), ((omega arith, refl), tt, tt), tt), tt);
+                  shallow = (omega arith, (omega arith, (omega arith, tt, tt), tt), tt);
+                  bytes = refl;
+                }) refl _ _ _ refl refl refl refl refl,
+                (
+                  grouped-so 0 2 4 (record {
+                    kinded = ((omega arith, refl), ((omega arith, refl), ((omega arith, refl), tt, tt), tt), tt);
+                    shallow = (omega arith, (omega arith, (omega arith, tt, tt), tt), tt);
+                    bytes = refl;
+                  }) refl _ _ _ refl refl refl refl refl,
+                  (
+                    ends-early,
+                    (
+                      bytes-left,
+                      (
+                        no-production,
+                        (
+                          wrong-kind,
+                          tt,
+                        ),
+                      ),
+                    ),
+                  ),
+                ),
+              ),
+            ),
+          ),
+        ),
+      ),
+    ),
+  ),
+)

@@ -245,20 +245,23 @@ no-row n p (short-up c a h) =
     omega (arith, up-nine)
 no-row n p (short-down c d a b h) =
     let e = down-entries-same G (λ p j l k. lawful .kids-in p j l k) c (left .plausible-counts) (counted-plausible c a) (λ p l. lawful .left-in p l) d (left .feasible-counts)
-        (counted-feasible d b) in
+    (counted-feasible d b) in
     omega (arith, down-many)
 
 -- THEOREM: a build of Fig. 1's book in that room is accepted, with 9 up entries and 24 down entries, and leaves what was worked out
 pub figure-built : BuildDue book room (accepted (9 ∷ 24 ∷ [])) left
 unfolding up-start down-start choices entry
-figure-built = (no-row, record {
-  plausible = plausible-held;
-  feasible = feasible-held;
-  up = up-is-right;
-  up-rest = record { long = refl; beyond = refl };
-  down = down-is-right;
-  down-rest = record { long = refl; beyond = refl };
-  counted = refl;
-  up-fits = omega arith;
-  down-fits = omega arith;
-})
+figure-built = (
+  no-row,
+  record {
+    plausible = plausible-held;
+    feasible = feasible-held;
+    up = up-is-right;
+    up-rest = record { long = refl; beyond = refl };
+    down = down-is-right;
+    down-rest = record { long = refl; beyond = refl };
+    counted = refl;
+    up-fits = omega arith;
+    down-fits = omega arith;
+  },
+)

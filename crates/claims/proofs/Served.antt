@@ -76,8 +76,8 @@ part-same : (l l′ : List ℕ) (base n : ℕ) → base + n ≤ length l → bas
 part-same l l′ base n h h′ same =
     ext-getD none (part base n l) (part base n l′) (length-part base n l h ∙ sym (length-part base n l′ h′))
     (λ i k.
-      let low : i < n = omega (arith, length-part base n l h) in
-      getD-part base n l i none low ∙ same i low ∙ sym (getD-part base n l′ i none low))
+    let low : i < n = omega (arith, length-part base n l h) in
+    getD-part base n l i none low ∙ same i low ∙ sym (getD-part base n l′ i none low))
 
 module _ {b : List ℕ} {m m′ : Lent} {cs : List ℕ} (due : BuildDue b m (accepted cs) m′) where
   pub built-lawful : Lawful (grammar b)
@@ -124,7 +124,7 @@ module _ {b : List ℕ} {m m′ : Lent} {cs : List ℕ} (due : BuildDue b m (acc
         let small′ = ranks-same (T .plausible-counts) c (G .kids p) rs (kid-counts p there) small in
         let e : up-entry G (T .plausible-counts) p rs ≡ up-entry G c p rs
         = ap₂ _+_ (up-start-same G (λ p j h l. built-lawful .kids-in p j h l) (T .plausible-counts) c (taken .plausible-counts) p (omega arith))
-          (choice-same (T .plausible-counts) c (G .kids p) rs (kid-counts p there)) in
+        (choice-same (T .plausible-counts) c (G .kids p) rs (kid-counts p there)) in
         let byte = ap (λ i. getD (T .up) i none) e ∙ taken .up (up-entry G c p rs) (up-entry-below G c p (G .prods) rs there small′) in
         let r = due .1 .up p rs there small′ in
         record {
@@ -139,14 +139,14 @@ module _ {b : List ℕ} {m m′ : Lent} {cs : List ℕ} (due : BuildDue b m (acc
         let x = down-entry G c d p u rs in
         let e : down-entry G (T .plausible-counts) (T .feasible-counts) p u rs ≡ x
         = ap₂ _+_ (down-start-same G (λ p j h l. built-lawful .kids-in p j h l) (T .plausible-counts) c (taken .plausible-counts) (λ p h. built-lawful .left-in p h)
-            (T .feasible-counts) d (taken .feasible-counts) p (omega arith))
-          (ap₂ _+_ (ap (λ t. u * t) (kids-same G (λ p j h l. built-lawful .kids-in p j h l) (T .plausible-counts) c (taken .plausible-counts) p there))
-            (choice-same (T .plausible-counts) c (G .kids p) rs (kid-counts p there))) in
+        (T .feasible-counts) d (taken .feasible-counts) p (omega arith))
+        (ap₂ _+_ (ap (λ t. u * t) (kids-same G (λ p j h l. built-lawful .kids-in p j h l) (T .plausible-counts) c (taken .plausible-counts) p there))
+        (choice-same (T .plausible-counts) c (G .kids p) rs (kid-counts p there))) in
         let inside = down-entry-below G c d p (G .prods) u rs there low′ small′ in
         let whole : x * entry-bytes + entry-bytes ≤ down-entries G c d * entry-bytes = omega arith in
         let bytes : part (x * entry-bytes) entry-bytes (T .down) ≡ part (x * entry-bytes) entry-bytes (m′ .down)
         = part-same (T .down) (m′ .down) (x * entry-bytes) entry-bytes (omega (arith, taken .down-room)) (omega (arith, due .1 .down-rest .long, due .1 .down-fits))
-          (λ i h. taken .down (x * entry-bytes + i) (omega arith)) in
+        (λ i h. taken .down (x * entry-bytes + i) (omega arith)) in
         let r = due .1 .down p u rs there low′ small′ in
         let r′ : DownEntry G p (m′ .feasible) (T .feasible-counts) (Downward G p (member (m′ .feasible) (G .left p) u) (picked (m′ .plausible) (G .kids p) rs)) (part (x * entry-bytes) entry-bytes (m′ .down))
         = record {

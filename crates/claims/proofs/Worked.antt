@@ -44,8 +44,8 @@ module _ (G : Grammar) (L : Lawful G) (p : ℕ) (there : p < G .prods) (τ : ℕ
       let one-more : suc t + length cs ≡ t + suc (length cs) = omega arith in
       let here : (a b : ℕ) → τ t a b ↔ Alike G (getD (slots G p) t 0) c a b = λ a b. rw zero-more at (each 0 a b (omega arith)) in
       let rest = tied-all (suc t) cs (joins s (code-pairs t (width G p t) c)) (omega arith)
-          (λ j a b k. let e : t + suc j ≡ suc t + j = omega arith in rw e at (each (suc j) a b (omega arith)))
-          (show-tie h c low (width-few G L p there t low) here) in
+      (λ j a b k. let e : t + suc j ≡ suc t + j = omega arith in rw e at (each (suc j) a b (omega arith)))
+      (show-tie h c low (width-few G L p there t low) here) in
       rw one-more at rest
 
 -- ── of an accepted book ──
@@ -168,7 +168,7 @@ module _ (b : List ℕ) (s c : List ℕ) where
     down-right ok down e p u rs there low small =
         let by-rank : ℕ → Bool = λ u. all-ranks c (grammar b .kids p) (down-test down p u) in
         let here = each-ranks c (grammar b .kids p) (down-test down p u) rs
-            (each-below by-rank (getD d (grammar b .left p) 0) u (e p there) low) small in
+        (each-below by-rank (getD d (grammar b .left p) 0) u (e p there) low) small in
         let labels-same = same (tidy (state-of p u rs) []) (take labels (entry-of down p u rs)) in
         let ranks-same = all-below (child-test down p u rs) (length (grammar b .kids p)) in
         let rest-same = all-below (rest-test down p u rs) max-kids in
@@ -180,9 +180,9 @@ module _ (b : List ℕ) (s c : List ℕ) where
         record {
           blocks = subst (Labelled (grammar b) p (Downward (grammar b) p x cs)) (sym (tidy-is (state-of p u rs) []) ∙ same-true (tidy (state-of p u rs) []) (take labels (entry-of down p u rs)) e₁) (down-labels ok p there cs long x);
           ranks = λ j h. rank-true f d (width (grammar b) p (suc j)) (getD (grammar b .kids p) j 0) (code-on (suc j) (width (grammar b) p (suc j)) (state-of p u rs)) (suc j)
-            (getD (entry-of down p u rs) (labels + j) none) (Downward (grammar b) p x cs) (down-says ok p there cs long x (suc j) (omega arith))
-            (each-below (child-test down p u rs) (length (grammar b .kids p)) j e₃ h);
+              (getD (entry-of down p u rs) (labels + j) none) (Downward (grammar b) p x cs) (down-says ok p there cs long x (suc j) (omega arith))
+              (each-below (child-test down p u rs) (length (grammar b .kids p)) j e₃ h);
           rest = λ j h k.
-            let t = each-below (rest-test down p u rs) max-kids j e₄ k in
-            eqb-true (getD (entry-of down p u rs) (labels + j) none) none (rw (le-ltb j (length (grammar b .kids p)) h) at t);
+              let t = each-below (rest-test down p u rs) max-kids j e₄ k in
+              eqb-true (getD (entry-of down p u rs) (labels + j) none) none (rw (le-ltb j (length (grammar b .kids p)) h) at t);
         }

@@ -82,7 +82,7 @@ Claim (feasible k codes) = Rising codes × ((c : ℕ) → List·Memᴰ c codes �
 Claim (entries up down) = (m : tables.Lent) × tables.BuildDue book room (accepted (up ∷ down ∷ [])) m
 Claim (grouped sheet answer nodes groups) = (m : tables.Lent) (made : List ℕ) → tables.BuildDue book room (accepted made) m
     → numbering.CallDue book sheet (tables-of m) (record { nodes = zeros (length nodes); groups = zeros (length groups) }) (accepted answer)
-      (record { nodes = nodes; groups = groups })
+    (record { nodes = nodes; groups = groups })
 Claim (refusal sheet number place) = SheetDue book sheet (refused number place)
 
 abbrev pub AllHold : List Row → Type 0

@@ -81,7 +81,7 @@ module _ {b l c d w plausible ends : List ℕ} {i p start f : ℕ} {ns rs : List
         let v = visit (grammar b) T (t .tree) i in
         ap (λ x. down-number x ns f rs) (a .begins)
         ∙ down-number-is (grammar b) (a .counts) (kin-long (grammar b) T ds (grammar b .kids p) plausible ends i kinded ended-kin ra)
-          (kin-padded (grammar b) T ds (grammar b .kids p) plausible ends i kinded ended-kin ra (a .kin)) d f
+        (kin-padded (grammar b) T ds (grammar b .kids p) plausible ends i kinded ended-kin ra (a .kin)) d f
         ∙ ap (λ x. down-entry (grammar b) c d p x (ranks (grammar b) T ds)) ef
         ∙ ap₂ (λ q es. down-entry (grammar b) c d q (v .feasible) (ranks (grammar b) T es)) (sym ep) (sym ed)
 
@@ -202,9 +202,10 @@ module _ {b l c d w plausible ends s feasible entries : List ℕ} {i : ℕ} (g :
       case = λ t u en ra ri.
           let n = node-at t i more in
           let bad : BadDown (grammar b) (tables c d u w) (getD l i 0) (entry-in (grammar b) (tables c d u w) (visit (grammar b) (tables c d u w) (t .tree) i))
-          = subst (DownNodeIs (grammar b) (tables c d u w) (t .tree) i (getD l i 0) ends feasible feasible′) e (here t u en ra ri) in
-          ( (getD l i 0, n .below, n .is-node, subst (λ x. BadDown (grammar b) (tables c d u w) (getD l i 0) x) (sym (entry-here t u)) bad)
-          , g .read-so-far t u en ra ri .0 );
+          = subst (DownNodeIs (grammar b) (tables c d u w) (t .tree) i (getD l i 0) ends feasible feasible′) e (here t u en ra ri) in (
+            (getD l i 0, n .below, n .is-node, subst (λ x. BadDown (grammar b) (tables c d u w) (getD l i 0) x) (sym (entry-here t u)) bad),
+            g .read-so-far t u en ra ri .0,
+          );
     }
 
     pub going-turn : {e x : ℕ} → r ≡ node.Entry e → x ≡ e → DownGoing b l c d w plausible ends s feasible′ (set entries i x) (i + 1)
@@ -215,11 +216,12 @@ module _ {b l c d w plausible ends s feasible entries : List ℕ} {i : ℕ} (g :
       entries-long = length-set entries i x ∙ g .entries-long;
       read-so-far = λ t u en ra ri.
           let (bad, first, below, told) = g .read-so-far t u en ra ri in
-          let (q, good, kept, got) = subst (DownNodeIs (grammar b) (tables c d u w) (t .tree) i (getD l i 0) ends feasible feasible′) er (here t u en ra ri) in
-          ( λ m p′ ds z k. still t u bad good m p′ ds z k (ℕ-discrete m i)
-          , kept 0 first
-          , λ a p′ ds j m z k o. ranked t u en kept got below a p′ ds j m z k o (ℕ-discrete a i)
-          , λ a k. entered t u q told a k (ℕ-discrete a i) );
+          let (q, good, kept, got) = subst (DownNodeIs (grammar b) (tables c d u w) (t .tree) i (getD l i 0) ends feasible feasible′) er (here t u en ra ri) in (
+            λ m p′ ds z k. still t u bad good m p′ ds z k (ℕ-discrete m i),
+            kept 0 first,
+            λ a p′ ds j m z k o. ranked t u en kept got below a p′ ds j m z k o (ℕ-discrete a i),
+            λ a k. entered t u q told a k (ℕ-discrete a i),
+          );
     }
       where
         still : (t : TreeOf (grammar b) l) (u : List ℕ) → NoBadDown (grammar b) (tables c d u w) (t .tree) i
@@ -259,8 +261,9 @@ module _ {b l c d w plausible ends s feasible entries : List ℕ} {i : ℕ} (g :
     feasible-long = g .feasible-long;
     entries-long = g .entries-long;
     case = λ t u en ra ri.
-        let (bad, first, below, told) = g .read-so-far t u en ra ri in
-        ( λ m q ds z k. bad m q ds z (omega (arith, tree-size t))
-        , λ m k. right-rank t u first below m (omega (arith, tree-size t)) (omega (arith, tree-size t))
-        , λ m k. told m (omega (arith, tree-size t)) );
+        let (bad, first, below, told) = g .read-so-far t u en ra ri in (
+          λ m q ds z k. bad m q ds z (omega (arith, tree-size t)),
+          λ m k. right-rank t u first below m (omega (arith, tree-size t)) (omega (arith, tree-size t)),
+          λ m k. told m (omega (arith, tree-size t)),
+        );
   }

@@ -244,14 +244,16 @@ module _ {b l w : List ℕ} {e p at kids : ℕ} {ends firsts : List ℕ} {i s fi
               let room : settings-of (grammar b) l ≤ length g = omega (arith, n .room, n .long) in
               let others : (m : ℕ) (us : List ℕ) → m < length l → (m ≡ child → ⊥) → Written (grammar b) l g m us → Written (grammar b) l g′ m us
               = λ m us k d y. rw eg (written-other (grammar b) l g child ns there room long m us k d y) in
-              rw ls
-              ( rw (holding-append hs first a z) hold′
-              , en′ ∙ sym (unused-append hs first a z)
-              , λ F f.
-                let own : F child ≡ ns = ap F (n .stands) ∙ f j here ∙ child-part (grammar b) T e ks j here hs first in
-                let this : Written (grammar b) l g′ child (F child) = rw (eg, own) (written-this (grammar b) l g child ns there room long) in
-                ( λ m k y. written-still (grammar b) l g g′ F child this others m k (keep F f .0 m k y)
-                , λ k y. written-kids F this others (keep F f .1) k y (ℕ-discrete k j) ) )
+              rw ls (
+                rw (holding-append hs first a z) hold′,
+                en′ ∙ sym (unused-append hs first a z),
+                λ F f.
+                    let own : F child ≡ ns = ap F (n .stands) ∙ f j here ∙ child-part (grammar b) T e ks j here hs first in
+                    let this : Written (grammar b) l g′ child (F child) = rw (eg, own) (written-this (grammar b) l g child ns there room long) in (
+                      λ m k y. written-still (grammar b) l g g′ F child this others m k (keep F f .0 m k y),
+                      λ k y. written-kids F this others (keep F f .1) k y (ℕ-discrete k j),
+                    ),
+              )
 
   pub naming-done : kids ≤ j → Family (grammar b) l w e p ends i s first stamps₀ numbers₀ g₀ stamps numbers g next
   naming-done h =
@@ -263,7 +265,9 @@ module _ {b l w : List ℕ} {e p at kids : ℕ} {ends firsts : List ℕ} {i s fi
         long = n .long;
         beyond = n .beyond;
         given = λ hs c d u q.
-            let (hold, en, keep) = n .given hs c d u q in
-            ( rw all at hold, en ∙ ap (λ t. unused hs first (kid-labels (grammar b) (tables c d u w) e 1 t)) all
-            , λ F f. (keep F f .0, λ k l. keep F f .1 k (omega arith)) );
+            let (hold, en, keep) = n .given hs c d u q in (
+              rw all at hold,
+              en ∙ ap (λ t. unused hs first (kid-labels (grammar b) (tables c d u w) e 1 t)) all,
+              λ F f. (keep F f .0, λ k l. keep F f .1 k (omega arith)),
+            );
       }

@@ -68,12 +68,14 @@ module _ (hs : List Held) (x n : ℕ) where
 -- the number that it takes may be put for the one that it was offered
 taken-same : (hs : List Held) (x n y : ℕ) → Dec (y ≡ x)
     → (holds y (hs ++ (x, holder x hs n) ∷ []) ≡ holds y (hs ++ (x, n) ∷ [])) × ((m : ℕ) → holder y (hs ++ (x, holder x hs n) ∷ []) m ≡ holder y (hs ++ (x, n) ∷ []) m)
-taken-same hs x n y (no e) =
-    ( holds-other hs x (holder x hs n) y e ∙ sym (holds-other hs x n y e)
-    , λ m. holder-other hs x (holder x hs n) y m e ∙ sym (holder-other hs x n y m e) )
-taken-same hs x n y (yes e) =
-    ( holds-same hs x (holder x hs n) y e ∙ sym (holds-same hs x n y e)
-    , λ m. holder-same hs x (holder x hs n) y m e ∙ ap (λ t. holder y hs (holder t hs n)) (sym e) ∙ twice (holds y hs) refl ∙ sym (holder-same hs x n y m e) )
+taken-same hs x n y (no e) = (
+  holds-other hs x (holder x hs n) y e ∙ sym (holds-other hs x n y e),
+  λ m. holder-other hs x (holder x hs n) y m e ∙ sym (holder-other hs x n y m e),
+)
+taken-same hs x n y (yes e) = (
+  holds-same hs x (holder x hs n) y e ∙ sym (holds-same hs x n y e),
+  λ m. holder-same hs x (holder x hs n) y m e ∙ ap (λ t. holder y hs (holder t hs n)) (sym e) ∙ twice (holds y hs) refl ∙ sym (holder-same hs x n y m e),
+)
   where
     twice : (b : Bool) → holds y hs ≡ b → holder y hs (holder y hs n) ≡ holder y hs n
     twice true h = holder-some y hs (holder y hs n) n h
@@ -160,6 +162,9 @@ module _ {s x : ℕ} (n : ℕ) {stamps numbers : List ℕ} (low : x < labels-kno
   held-first e = record {
     stamps-kept = length-set stamps x s;
     numbers-kept = length-set numbers x n;
-    more = λ hs h. (first hs e h, rw (h .blank x low e),
-    getD-set-same numbers x n 0 (omega (arith, h .numbers-long)) ∙ sym (holder-none x hs n (h .blank x low e)));
+    more = λ hs h. (
+      first hs e h,
+      rw (h .blank x low e),
+      getD-set-same numbers x n 0 (omega (arith, h .numbers-long)) ∙ sym (holder-none x hs n (h .blank x low e)),
+    );
   }

@@ -67,10 +67,10 @@ module _ {p f e s₀ : List ℕ} {n : ℕ} {s : List ℕ} {i : ℕ} (t : Telling
       let old : s ≡ r ++ getD s₀ (3 * i) 0 ∷ getD s₀ (suc (3 * i)) 0 ∷ getD s₀ (suc (suc (3 * i))) 0 ∷ drop (3 * (i + 1)) s₀ = t .told ∙ ap (λ u. r ++ u) d in
       let new : set (set (set s (3 * i) a) (3 * i + 1) b) (3 * i + 2) c ≡ r ++ a ∷ b ∷ c ∷ drop (3 * (i + 1)) s₀
       = ap (λ u. set (set (set u (3 * i) a) (3 * i + 1) b) (3 * i + 2) c) old
-        ∙ sets-at r (3 * i) (getD s₀ (3 * i) 0) (getD s₀ (suc (3 * i)) 0) (getD s₀ (suc (suc (3 * i))) 0) a b c (drop (3 * (i + 1)) s₀) l in
+      ∙ sets-at r (3 * i) (getD s₀ (3 * i) 0) (getD s₀ (suc (3 * i)) 0) (getD s₀ (suc (suc (3 * i))) 0) a b c (drop (3 * (i + 1)) s₀) l in
       let row : rows p f e 0 (i + 1) ≡ r ++ a ∷ b ∷ c ∷ []
       = ap (rows p f e 0) (add-one i) ∙ rows-more p f e 0 i
-        ∙ ap (λ k. r ++ getD p k 0 ∷ getD f k 0 ∷ getD e k 0 ∷ []) z ∙ rw (ea, eb, ec) in
+      ∙ ap (λ k. r ++ getD p k 0 ∷ getD f k 0 ∷ getD e k 0 ∷ []) z ∙ rw (ea, eb, ec) in
       record {
         within = omega arith;
         few = t .few;

@@ -141,7 +141,7 @@ slot-turn {w} {e} {slot} {a} {at} {s} {first} {stamps₀} {numbers₀} {g₀} {s
         = ap (λ t. next + t) er ∙ counted (holds x ks) ∙ ap (λ t. pick (holds x ks) t (suc t)) en ∙ sym (unfold-one ks (unused hs first xs) .1) ∙ sym (unused-append hs first xs (x ∷ [])) in
         let nu : numbered hs first (xs ++ x ∷ []) ≡ numbered hs first xs ++ v ∷ []
         = numbered-append hs first xs (x ∷ []) ∙ ap (λ t. numbered hs first xs ++ t)
-          (unfold-one ks (unused hs first xs) .0 ∙ ap (λ t. holder x ks t ∷ []) (sym en) ∙ ap (λ t. t ∷ []) (sym ef ∙ sym ev)) in
+        (unfold-one ks (unused hs first xs) .0 ∙ ap (λ t. holder x ks t ∷ []) (sym en) ∙ ap (λ t. t ∷ []) (sym ef ∙ sym ev)) in
         let long : length (numbered hs first xs) ≡ a = numbered-long hs first xs ∙ slot-labels-long T e slot 0 a in
         let gs : set g (at + a) v ≡ place at (numbered hs first (xs ++ x ∷ [])) g₀
         = ap₂ (λ t i. set t (at + i) v) eg (sym long) ∙ placed g₀ at (numbered hs first xs) (omega arith) v ∙ ap (λ t. place at t g₀) (sym nu) in

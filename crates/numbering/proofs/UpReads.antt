@@ -140,8 +140,11 @@ module _ {b l c u plausible ends : List ℕ} {i : ℕ} (g : UpGoing b l c u plau
       plausible-long = length-set plausible (i - 1) (rank .0) ∙ g .plausible-long;
       ends-long = length-set ends (i - 1) x ∙ g .ends-long;
       few = g .few;
-      read-so-far = λ t d w. (λ m q ds s k. still t d w m q ds s k (ℕ-discrete m (i - 1)), λ m q ds s k. ranked t d w m q ds s k (ℕ-discrete m (i - 1)),
-          λ m q ds s k. ended t d w m q ds s k (ℕ-discrete m (i - 1)));
+      read-so-far = λ t d w. (
+        λ m q ds s k. still t d w m q ds s k (ℕ-discrete m (i - 1)),
+        λ m q ds s k. ranked t d w m q ds s k (ℕ-discrete m (i - 1)),
+        λ m q ds s k. ended t d w m q ds s k (ℕ-discrete m (i - 1)),
+      );
     }
       where
         now : (t : TreeOf (grammar b) l) (d w : List ℕ) (m q : ℕ) (ds : Bush) → Sub (t .tree) 0 m q ds → m ≡ i - 1

@@ -134,9 +134,11 @@ module _ (G : Grammar) (T : Tables) where
       let v = arrival G T p cs φ owns n in
       let φ′ = given T (entry-in G T v) in
       let next = walk G T cs φ′ (handed G T v) (after G T v) .next in
-      let outer = drop (width G p 0) owns in
-      (refl, linked-append (visits G T cs φ′ (handed G T v) (after G T v)) (visits G T rest (λ j. φ (suc j)) outer next) (after G T v) next
-      (walk G T rest (λ j. φ (suc j)) outer next .next) (visits-linked cs φ′ (handed G T v) (after G T v)) (visits-linked rest (λ j. φ (suc j)) outer next))
+      let outer = drop (width G p 0) owns in (
+        refl,
+        linked-append (visits G T cs φ′ (handed G T v) (after G T v)) (visits G T rest (λ j. φ (suc j)) outer next) (after G T v) next
+            (walk G T rest (λ j. φ (suc j)) outer next .next) (visits-linked cs φ′ (handed G T v) (after G T v)) (visits-linked rest (λ j. φ (suc j)) outer next),
+      )
 
   pub linked-rises : (vs : List Visit) (n m : ℕ) → Linked n vs m → n ≤ m
   linked-rises [] n m h = omega arith

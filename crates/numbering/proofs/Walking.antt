@@ -116,10 +116,11 @@ module _ {b l w ends entries g stamps numbers g′ : List ℕ} {e wide r : ℕ} 
         let e0 : e ≡ entry-in (grammar b) T (visit (grammar b) T f 0) = ee ∙ ent 0 (omega (arith, tree-size t, sheeted .some)) in
         let w0 : wide ≡ width (grammar b) (visit (grammar b) T f 0 .prod) 0 = ew ∙ ap (λ q. grammar b .settings (grammar b .left q)) (sym ep) in
         let xs : slot-labels T e 0 0 wide ≡ root-labels (grammar b) T f = ap₂ (λ y z. slot-labels T y 0 0 z) e0 w0 ∙ sym el in
-        let ns : numbered [] 0 (slot-labels T e 0 0 wide) ≡ visit (grammar b) T f 0 .own = ap (numbered [] 0) xs ∙ sym eo in
-        ( rw (er, xs) (journey-linked (grammar b) T f (t .kinded))
-        , first T ns eg
-        , λ a q ds j m s k. absurd (omega arith) );
+        let ns : numbered [] 0 (slot-labels T e 0 0 wide) ≡ visit (grammar b) T f 0 .own = ap (numbered [] 0) xs ∙ sym eo in (
+          rw (er, xs) (journey-linked (grammar b) T f (t .kinded)),
+          first T ns eg,
+          λ a q ds j m s k. absurd (omega arith),
+        );
   }
     where
       nothing : settings-of (grammar b) (take 0 l) ≡ 0
@@ -137,9 +138,11 @@ module _ {b l w ends entries g stamps numbers g′ : List ℕ} {e wide r : ℕ} 
   pub beyond-root : {g″ : List ℕ} {next : ℕ} → Given b l w ends entries g′ g″ next → Given b l w ends entries g g″ next
   beyond-root a = record {
     all = λ t c d u en ent.
-        let (er, eg) = a .all t c d u en ent in
-        (er, eg ∙ ap (λ s. group-numbers (grammar b) (tables c d u w) (t .tree) .list ++ s)
-        (o .beyond (settings-of (grammar b) l) (omega (arith, ew, settings-inside (grammar b) l 0 (sheeted .some)))));
+        let (er, eg) = a .all t c d u en ent in (
+          er,
+          eg ∙ ap (λ s. group-numbers (grammar b) (tables c d u w) (t .tree) .list ++ s)
+              (o .beyond (settings-of (grammar b) l) (omega (arith, ew, settings-inside (grammar b) l 0 (sheeted .some)))),
+        );
   }
 
 module _ {b l w ends entries g₀ stamps numbers g : List ℕ} {next i : ℕ} (k : Walking b l w ends entries g₀ stamps numbers g next i) where
@@ -224,12 +227,13 @@ module _ {b l w ends entries g₀ stamps numbers g : List ℕ} {next i : ℕ} (k
         let er′ : r ≡ after (grammar b) T v = er ∙ rw (e0, ← en′, ← ep) refl in
         let handed-is = handed-same T v e0 ep en′ in
         let (kept, got) = keep (λ m. visit (grammar b) T f m .own) (λ j h.
-            let rt = child-root ends i (n .below) (ended-below f (n .below) i (getD l i 0) 0 ends (n .is-node) (omega arith) en) (grammar b) (grammar b .kids (getD l i 0)) (n .kinded) j h in
-            child-visited (grammar b) T f (t .kinded) i (getD l i 0) (n .below) j (child-at ends i j) (n .is-node) rt .1
-            ∙ ap (part (kinds-width (grammar b) (take j (grammar b .kids (getD l i 0)))) (grammar b .settings (getD (grammar b .kids (getD l i 0)) j 0))) handed-is) in
-        ( rw (add-one i, er′) linked′
-        , kept 0 (omega arith) first
-        , λ a q ds j m s h z. onward t T en kept got below a q ds j m s h z (ℕ-discrete a i) );
+        let rt = child-root ends i (n .below) (ended-below f (n .below) i (getD l i 0) 0 ends (n .is-node) (omega arith) en) (grammar b) (grammar b .kids (getD l i 0)) (n .kinded) j h in
+        child-visited (grammar b) T f (t .kinded) i (getD l i 0) (n .below) j (child-at ends i j) (n .is-node) rt .1
+        ∙ ap (part (kinds-width (grammar b) (take j (grammar b .kids (getD l i 0)))) (grammar b .settings (getD (grammar b .kids (getD l i 0)) j 0))) handed-is) in (
+          rw (add-one i, er′) linked′,
+          kept 0 (omega arith) first,
+          λ a q ds j m s h z. onward t T en kept got below a q ds j m s h z (ℕ-discrete a i),
+        );
   }
     where
       handed-same : (T : Tables) (v : Visit) → e ≡ entry-in (grammar b) T v → v .prod ≡ getD l i 0 → v .next ≡ next

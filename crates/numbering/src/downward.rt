@@ -7,11 +7,16 @@ ghost use Rattle.book.specs.Format.{kinds, prods, grammar};
 ghost use Rattle.ranks.specs.Entries.{down-start};
 ghost use Rattle.numbering.specs.Parts.{Indexed, Sheeted, Children, Ended, HandedDown, DownNodeRead, DownReads};
 ghost use Rattle.numbering.specs.Promise.{TreeOf};
-use ranks::{DownRead, Feasible};
-use super::kin::{kid_counts, kin_of};
-use super::limits::{NODES, PRODUCTIONS};
+use super::Reads;
+use super::kin::kid_counts;
+use super::kin::kin_of;
+use super::limits::NODES;
+use super::limits::PRODUCTIONS;
+use super::span;
 use super::starts::down_starts;
-use super::{Reads, span, wide};
+use super::wide;
+use ranks::DownRead;
+use ranks::Feasible;
 
 // What is read at a node: its down entry; or an entry past its slice, or a child's rank not below its count.
 pub enum DownNode {
@@ -20,7 +25,17 @@ pub enum DownNode {
 }
 
 // Gives each child of node i, of production p, its feasible rank from the entry; false where one is not below its count.
-fn hand_down(book: &[u8], places: &[usize; PRODUCTIONS], p: usize, counts: &[u8], down: &[u8], entry: u64, ends: &[u16; NODES], i: usize, feasible: &mut [u8; NODES]) -> bool
+fn hand_down(
+    book: &[u8],
+    places: &[usize; PRODUCTIONS],
+    p: usize,
+    counts: &[u8],
+    down: &[u8],
+    entry: u64,
+    ends: &[u16; NODES],
+    i: usize,
+    feasible: &mut [u8; NODES],
+) -> bool
     requires { ⌜ Indexed (now book) (now places) × (p < prods (now book)) × (kinds (now book) ≤ length (now counts))
         × (length (now feasible) ≡ max-nodes) × (length (now ends) ≡ max-nodes) × Children (now ends) i (length (grammar (now book) .kids p)) ⌝ }
     ensures { λ r. ⌜ HandedDown (now (book .entry)) (now (counts .entry)) (now (down .entry)) entry p (now (ends .entry)) i (now (feasible .entry)) (now (feasible .exit)) r ⌝ }
@@ -43,7 +58,20 @@ fn hand_down(book: &[u8], places: &[usize; PRODUCTIONS], p: usize, counts: &[u8]
 }
 
 // The read at node i, of production p, whose entries begin at start.
-fn read_node(book: &[u8], places: &[usize; PRODUCTIONS], sheet: &[u8], counts: &[u8], feasible_counts: &[u8], down: &[u8], start: u64, p: usize, plausible: &[u8; NODES], ends: &[u16; NODES], i: usize, feasible: &mut [u8; NODES]) -> DownNode
+fn read_node(
+    book: &[u8],
+    places: &[usize; PRODUCTIONS],
+    sheet: &[u8],
+    counts: &[u8],
+    feasible_counts: &[u8],
+    down: &[u8],
+    start: u64,
+    p: usize,
+    plausible: &[u8; NODES],
+    ends: &[u16; NODES],
+    i: usize,
+    feasible: &mut [u8; NODES],
+) -> DownNode
     requires { ⌜ Indexed (now book) (now places) × (p < prods (now book)) × (kinds (now book) ≤ length (now counts)) × (kinds (now book) ≤ length (now «feasible_counts»))
         × (start ≡ down-start (grammar (now book)) (now counts) (now «feasible_counts») p)
         × (length (now plausible) ≡ max-nodes) × (length (now ends) ≡ max-nodes) × (length (now feasible) ≡ max-nodes)
@@ -58,7 +86,17 @@ fn read_node(book: &[u8], places: &[usize; PRODUCTIONS], sheet: &[u8], counts: &
     match ranks::read_down(down, start, kid_counts(book, places, p, counts), own, ranks) {
         DownRead::Past => DownNode::Bad,
         DownRead::At(entry) => {
-            if hand_down(book, places, p, feasible_counts, down, entry, ends, i, feasible) {
+            if hand_down(
+                book,
+                places,
+                p,
+                feasible_counts,
+                down,
+                entry,
+                ends,
+                i,
+                feasible,
+            ) {
                 return DownNode::Entry(entry);
             }
             DownNode::Bad
@@ -67,7 +105,18 @@ fn read_node(book: &[u8], places: &[usize; PRODUCTIONS], sheet: &[u8], counts: &
 }
 
 // All of them; the first that is bad is the answer.
-pub fn read_downward(book: &[u8], places: &[usize; PRODUCTIONS], sheet: &[u8], counts: &[u8], feasible_counts: &[u8], down: &[u8], plausible: &[u8; NODES], ends: &[u16; NODES], feasible: &mut [u8; NODES], entries: &mut [u64; NODES]) -> Reads
+pub fn read_downward(
+    book: &[u8],
+    places: &[usize; PRODUCTIONS],
+    sheet: &[u8],
+    counts: &[u8],
+    feasible_counts: &[u8],
+    down: &[u8],
+    plausible: &[u8; NODES],
+    ends: &[u16; NODES],
+    feasible: &mut [u8; NODES],
+    entries: &mut [u64; NODES],
+) -> Reads
     requires { ⌜ Indexed (now book) (now places) × Sheeted (now book) (now sheet) × (kinds (now book) ≤ length (now counts)) × (kinds (now book) ≤ length (now «feasible_counts»))
         × (length (now plausible) ≡ max-nodes) × (length (now ends) ≡ max-nodes) × (length (now feasible) ≡ max-nodes) × (length (now entries) ≡ max-nodes)
         × ((t : TreeOf (grammar (now book)) (now sheet)) → Ended (t .tree) 0 0 (now ends)) ⌝ }
@@ -78,7 +127,20 @@ pub fn read_downward(book: &[u8], places: &[usize; PRODUCTIONS], sheet: &[u8], c
     let mut i = 0;
     while i < sheet.len() {
         let p = wide(sheet[i]);
-        match read_node(book, places, sheet, counts, feasible_counts, down, starts[p], p, plausible, ends, i, feasible) {
+        match read_node(
+            book,
+            places,
+            sheet,
+            counts,
+            feasible_counts,
+            down,
+            starts[p],
+            p,
+            plausible,
+            ends,
+            i,
+            feasible,
+        ) {
             DownNode::Bad => {
                 return Reads::Bad(i as u16);
             }

@@ -8,9 +8,12 @@ ghost use Rattle.book.specs.Format.{kinds, prods, grammar};
 ghost use Rattle.ranks.specs.Reads.{numbers};
 ghost use Rattle.ranks.proofs.Padded.{CountsPadded};
 ghost use Rattle.numbering.specs.Parts.{Indexed, Children, Kindred};
-use super::limits::{NODES, PRODUCTIONS};
-use ranks::{KIDS, Plausible};
-use super::{span, wide};
+use super::limits::NODES;
+use super::limits::PRODUCTIONS;
+use super::span;
+use super::wide;
+use ranks::KIDS;
+use ranks::Plausible;
 
 // The ranks of the first children, and where the last of them ends.
 pub struct Kin {

@@ -8,8 +8,12 @@ ghost use Rattle.book.specs.Format.{prods, grammar};
 ghost use Rattle.sheet.specs.Reading.{settings-of};
 ghost use Rattle.numbering.specs.Parts.{Indexed, Sheeted, Children};
 ghost use Rattle.numbering.specs.Giving.{labels-known, Firsts, Held-one, Held-own, Slot, Kinds, Family, Instance, Walkable, Given};
-use super::limits::{LABELS, NODES, PRODUCTIONS};
-use super::{span, wide, word};
+use super::limits::LABELS;
+use super::limits::NODES;
+use super::limits::PRODUCTIONS;
+use super::span;
+use super::wide;
+use super::word;
 
 // The place of each node's first setting among those of the sheet.
 fn first_places(book: &[u8], places: &[usize; PRODUCTIONS], sheet: &[u8]) -> [u16; NODES]
@@ -29,7 +33,13 @@ fn first_places(book: &[u8], places: &[usize; PRODUCTIONS], sheet: &[u8]) -> [u1
 }
 
 // An occurrence with its label and a number: it holds the label unless one before it does. 1 where it does.
-fn hold(label: u8, number: u16, stamp: u16, stamps: &mut [u16; LABELS], held: &mut [u16; LABELS]) -> u16
+fn hold(
+    label: u8,
+    number: u16,
+    stamp: u16,
+    stamps: &mut [u16; LABELS],
+    held: &mut [u16; LABELS],
+) -> u16
     requires { ⌜ (length (now stamps) ≡ labels-known) × (length (now held) ≡ labels-known) ⌝ }
     ensures { λ r. ⌜ Held-one stamp label number (now (stamps .entry)) (now (held .entry)) (now (stamps .exit)) (now (held .exit)) r × (r ≤ 1) ⌝ }
 {
@@ -43,19 +53,45 @@ fn hold(label: u8, number: u16, stamp: u16, stamps: &mut [u16; LABELS], held: &m
 }
 
 // Slot 0 of a node, whose settings have their numbers in `groups` from `at` on.
-fn hold_own(down: &[u8], entry: u64, width: usize, at: usize, stamp: u16, groups: &[u16], stamps: &mut [u16; LABELS], held: &mut [u16; LABELS])
+fn hold_own(
+    down: &[u8],
+    entry: u64,
+    width: usize,
+    at: usize,
+    stamp: u16,
+    groups: &[u16],
+    stamps: &mut [u16; LABELS],
+    held: &mut [u16; LABELS],
+)
     requires { ⌜ (width ≤ max-settings) × (at + width ≤ length (now groups)) × (length (now stamps) ≡ labels-known) × (length (now held) ≡ labels-known) ⌝ }
     ensures { λ r. ⌜ Held-own (now (down .entry)) entry width at stamp (now (groups .entry)) (now (stamps .entry)) (now (held .entry)) (now (stamps .exit)) (now (held .exit)) ⌝ }
 {
     let mut a = 0;
     while a < width {
-        hold(ranks::label(down, entry, a), groups[at + a], stamp, stamps, held);
+        hold(
+            ranks::label(down, entry, a),
+            groups[at + a],
+            stamp,
+            stamps,
+            held,
+        );
         a += 1;
     }
 }
 
 // A slot's settings are numbered and put into `groups` from `at` on. Gives the next unused number.
-fn number_slot(down: &[u8], entry: u64, slot: usize, width: usize, at: usize, stamp: u16, first: u16, stamps: &mut [u16; LABELS], held: &mut [u16; LABELS], groups: &mut [u16]) -> u16
+fn number_slot(
+    down: &[u8],
+    entry: u64,
+    slot: usize,
+    width: usize,
+    at: usize,
+    stamp: u16,
+    first: u16,
+    stamps: &mut [u16; LABELS],
+    held: &mut [u16; LABELS],
+    groups: &mut [u16],
+) -> u16
     requires { ⌜ (slot ≤ max-kids) × (width ≤ max-settings) × (at + width ≤ length (now groups)) × (first + width < 65536)
         × (length (now stamps) ≡ labels-known) × (length (now held) ≡ labels-known) ⌝ }
     ensures { λ r. ⌜ Slot (now (down .entry)) entry slot width at stamp first (now (stamps .entry)) (now (held .entry)) (now (groups .entry))
@@ -74,7 +110,22 @@ fn number_slot(down: &[u8], entry: u64, slot: usize, width: usize, at: usize, st
 }
 
 // The settings of the children of node i, of production p, from the first child to the last.
-fn number_kids(book: &[u8], places: &[usize; PRODUCTIONS], sheet: &[u8], p: usize, down: &[u8], entry: u64, ends: &[u16; NODES], firsts: &[u16; NODES], i: usize, stamp: u16, first: u16, stamps: &mut [u16; LABELS], held: &mut [u16; LABELS], groups: &mut [u16]) -> u16
+fn number_kids(
+    book: &[u8],
+    places: &[usize; PRODUCTIONS],
+    sheet: &[u8],
+    p: usize,
+    down: &[u8],
+    entry: u64,
+    ends: &[u16; NODES],
+    firsts: &[u16; NODES],
+    i: usize,
+    stamp: u16,
+    first: u16,
+    stamps: &mut [u16; LABELS],
+    held: &mut [u16; LABELS],
+    groups: &mut [u16],
+) -> u16
     requires { ⌜ Indexed (now book) (now places) × (p < prods (now book)) × (first ≤ max-settings * max-nodes)
         × Children (now ends) i (length (grammar (now book) .kids p)) × Kinds (grammar (now book)) (now sheet) (now ends) i p
         × Firsts (grammar (now book)) (now sheet) (now firsts) × (settings-of (grammar (now book)) (now sheet) ≤ length (now groups))
@@ -89,7 +140,18 @@ fn number_kids(book: &[u8], places: &[usize; PRODUCTIONS], sheet: &[u8], p: usiz
     let mut j = 0;
     while j < kids {
         let width = wide(book::settings(book, book::kid(book, place, j)));
-        next = number_slot(down, entry, wide(j) + 1, width, span(firsts[child]), stamp, next, stamps, held, groups);
+        next = number_slot(
+            down,
+            entry,
+            wide(j) + 1,
+            width,
+            span(firsts[child]),
+            stamp,
+            next,
+            stamps,
+            held,
+            groups,
+        );
         child = span(ends[child]);
         j += 1;
     }
@@ -97,7 +159,20 @@ fn number_kids(book: &[u8], places: &[usize; PRODUCTIONS], sheet: &[u8], p: usiz
 }
 
 // Node i: its own settings hold their labels, then its children's settings are numbered. Its stamp is later than those of the nodes before it.
-fn number_node(book: &[u8], places: &[usize; PRODUCTIONS], sheet: &[u8], down: &[u8], entry: u64, ends: &[u16; NODES], firsts: &[u16; NODES], i: usize, first: u16, stamps: &mut [u16; LABELS], held: &mut [u16; LABELS], groups: &mut [u16]) -> u16
+fn number_node(
+    book: &[u8],
+    places: &[usize; PRODUCTIONS],
+    sheet: &[u8],
+    down: &[u8],
+    entry: u64,
+    ends: &[u16; NODES],
+    firsts: &[u16; NODES],
+    i: usize,
+    first: u16,
+    stamps: &mut [u16; LABELS],
+    held: &mut [u16; LABELS],
+    groups: &mut [u16],
+) -> u16
     requires { ⌜ Indexed (now book) (now places) × (i < length (now sheet)) × (getD (now sheet) i 0 < prods (now book)) × (first ≤ max-settings * max-nodes)
         × Children (now ends) i (length (grammar (now book) .kids (getD (now sheet) i 0))) × Kinds (grammar (now book)) (now sheet) (now ends) i (getD (now sheet) i 0)
         × Firsts (grammar (now book)) (now sheet) (now firsts) × (settings-of (grammar (now book)) (now sheet) ≤ length (now groups))
@@ -108,12 +183,44 @@ fn number_node(book: &[u8], places: &[usize; PRODUCTIONS], sheet: &[u8], down: &
     let p = wide(sheet[i]);
     let width = wide(book::settings(book, book::left(book, places[p])));
     let stamp = i as u16 + 2;
-    hold_own(down, entry, width, span(firsts[i]), stamp, groups, stamps, held);
-    number_kids(book, places, sheet, p, down, entry, ends, firsts, i, stamp, first, stamps, held, groups)
+    hold_own(
+        down,
+        entry,
+        width,
+        span(firsts[i]),
+        stamp,
+        groups,
+        stamps,
+        held,
+    );
+    number_kids(
+        book,
+        places,
+        sheet,
+        p,
+        down,
+        entry,
+        ends,
+        firsts,
+        i,
+        stamp,
+        first,
+        stamps,
+        held,
+        groups,
+    )
 }
 
 // All settings: the root's own first, then at each node its children's. Gives the number of groups.
-pub fn number_all(book: &[u8], places: &[usize; PRODUCTIONS], sheet: &[u8], down: &[u8], ends: &[u16; NODES], entries: &[u64; NODES], groups: &mut [u16]) -> u16
+pub fn number_all(
+    book: &[u8],
+    places: &[usize; PRODUCTIONS],
+    sheet: &[u8],
+    down: &[u8],
+    ends: &[u16; NODES],
+    entries: &[u64; NODES],
+    groups: &mut [u16],
+) -> u16
     requires { ⌜ Indexed (now book) (now places) × Sheeted (now book) (now sheet) × Walkable (now book) (now sheet) (now down) (now ends) (now entries)
         × (settings-of (grammar (now book)) (now sheet) ≤ length (now groups)) × (length (now ends) ≡ max-nodes) × (length (now entries) ≡ max-nodes) ⌝ }
     ensures { λ r. ⌜ Given (now (book .entry)) (now (sheet .entry)) (now (down .entry)) (now (ends .entry)) (now (entries .entry)) (now (groups .entry)) (now (groups .exit)) r ⌝ }
@@ -122,10 +229,34 @@ pub fn number_all(book: &[u8], places: &[usize; PRODUCTIONS], sheet: &[u8], down
     let mut stamps = [0u16; LABELS];
     let mut held = [0u16; LABELS];
     let width = wide(book::settings(book, book::left(book, places[wide(sheet[0])])));
-    let mut next = number_slot(down, entries[0], 0, width, 0, 1, 0, &mut stamps, &mut held, groups);
+    let mut next = number_slot(
+        down,
+        entries[0],
+        0,
+        width,
+        0,
+        1,
+        0,
+        &mut stamps,
+        &mut held,
+        groups,
+    );
     let mut i = 0;
     while i < sheet.len() {
-        next = number_node(book, places, sheet, down, entries[i], ends, &firsts, i, next, &mut stamps, &mut held, groups);
+        next = number_node(
+            book,
+            places,
+            sheet,
+            down,
+            entries[i],
+            ends,
+            &firsts,
+            i,
+            next,
+            &mut stamps,
+            &mut held,
+            groups,
+        );
         i += 1;
     }
     next

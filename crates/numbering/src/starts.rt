@@ -7,10 +7,12 @@ ghost use Rattle.book.specs.Format.{kinds};
 ghost use Rattle.ranks.specs.Entries.{choices};
 ghost use Rattle.ranks.specs.Reads as reads;
 ghost use Rattle.numbering.specs.Parts.{Indexed, UpStarts, DownStarts};
-use ranks::KIDS;
 use super::kin::kid_counts;
 use super::limits::PRODUCTIONS;
-use super::{long, span, wide};
+use super::long;
+use super::span;
+use super::wide;
+use ranks::KIDS;
 
 // The number of choices for children of these counts.
 fn choices_of(counts: [u8; KIDS]) -> u64
@@ -41,7 +43,12 @@ pub fn up_starts(book: &[u8], places: &[usize; PRODUCTIONS], counts: &[u8]) -> [
     starts
 }
 
-pub fn down_starts(book: &[u8], places: &[usize; PRODUCTIONS], counts: &[u8], feasible_counts: &[u8]) -> [u64; PRODUCTIONS]
+pub fn down_starts(
+    book: &[u8],
+    places: &[usize; PRODUCTIONS],
+    counts: &[u8],
+    feasible_counts: &[u8],
+) -> [u64; PRODUCTIONS]
     requires { ⌜ Indexed (now book) (now places) × (kinds (now book) ≤ length (now counts)) × (kinds (now book) ≤ length (now «feasible_counts»)) ⌝ }
     ensures { λ r. ⌜ DownStarts (now (book .entry)) (now (counts .entry)) (now («feasible_counts» .entry)) r ⌝ }
 {

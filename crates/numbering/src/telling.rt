@@ -8,7 +8,13 @@ ghost use Rattle.numbering.specs.Giving.{rows};
 use super::limits::NODES;
 use super::long;
 
-pub fn tell(n: usize, plausible: &[u8; NODES], feasible: &[u8; NODES], entries: &[u64; NODES], nodes: &mut [u64])
+pub fn tell(
+    n: usize,
+    plausible: &[u8; NODES],
+    feasible: &[u8; NODES],
+    entries: &[u64; NODES],
+    nodes: &mut [u64],
+)
     requires { ⌜ (n ≤ max-nodes) × (3 * n ≤ length (now nodes)) × (length (now plausible) ≡ max-nodes) × (length (now feasible) ≡ max-nodes) × (length (now entries) ≡ max-nodes) ⌝ }
     ensures { λ r. ⌜ now (nodes .exit) ≡ rows (now (plausible .entry)) (now (feasible .entry)) (now (entries .entry)) 0 n ++ drop (3 * n) (now (nodes .entry)) ⌝ }
 {

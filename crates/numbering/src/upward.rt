@@ -6,11 +6,15 @@ ghost use Rattle.chains.specs.Limits.{max-nodes};
 ghost use Rattle.book.specs.Format.{kinds, prods, grammar};
 ghost use Rattle.ranks.specs.Entries.{up-start};
 ghost use Rattle.numbering.specs.Parts.{Indexed, Sheeted, Children, UpNodeRead, UpReads};
-use ranks::{Plausible, UpRead};
-use super::kin::{kid_counts, kin_of};
-use super::limits::{NODES, PRODUCTIONS};
+use super::Reads;
+use super::kin::kid_counts;
+use super::kin::kin_of;
+use super::limits::NODES;
+use super::limits::PRODUCTIONS;
 use super::starts::up_starts;
-use super::{Reads, wide};
+use super::wide;
+use ranks::Plausible;
+use ranks::UpRead;
 
 // What is read at a node: its rank and where its subtree ends; or an entry past its slice, or a rank not below its count.
 pub enum UpNode {
@@ -19,7 +23,17 @@ pub enum UpNode {
 }
 
 // The read at node i, of production p, whose entries begin at start.
-fn read_node(book: &[u8], places: &[usize; PRODUCTIONS], counts: &[u8], up: &[u8], start: u64, p: usize, plausible: &[u8; NODES], ends: &[u16; NODES], i: usize) -> UpNode
+fn read_node(
+    book: &[u8],
+    places: &[usize; PRODUCTIONS],
+    counts: &[u8],
+    up: &[u8],
+    start: u64,
+    p: usize,
+    plausible: &[u8; NODES],
+    ends: &[u16; NODES],
+    i: usize,
+) -> UpNode
     requires { ⌜ Indexed (now book) (now places) × (p < prods (now book)) × (kinds (now book) ≤ length (now counts))
         × (start ≡ up-start (grammar (now book)) (now counts) p)
         × (length (now plausible) ≡ max-nodes) × (length (now ends) ≡ max-nodes) × Children (now ends) i (length (grammar (now book) .kids p)) ⌝ }
@@ -41,7 +55,15 @@ fn read_node(book: &[u8], places: &[usize; PRODUCTIONS], counts: &[u8], up: &[u8
 }
 
 // All of them; the first that is bad, from the last node on, is the answer.
-pub fn read_upward(book: &[u8], places: &[usize; PRODUCTIONS], sheet: &[u8], counts: &[u8], up: &[u8], plausible: &mut [u8; NODES], ends: &mut [u16; NODES]) -> Reads
+pub fn read_upward(
+    book: &[u8],
+    places: &[usize; PRODUCTIONS],
+    sheet: &[u8],
+    counts: &[u8],
+    up: &[u8],
+    plausible: &mut [u8; NODES],
+    ends: &mut [u16; NODES],
+) -> Reads
     requires { ⌜ Indexed (now book) (now places) × Sheeted (now book) (now sheet) × (kinds (now book) ≤ length (now counts))
         × (length (now plausible) ≡ max-nodes) × (length (now ends) ≡ max-nodes) ⌝ }
     ensures { λ r. ⌜ UpReads (now (book .entry)) (now (sheet .entry)) (now (counts .entry)) (now (up .entry)) (now (plausible .exit)) (now (ends .exit)) r ⌝ }

@@ -56,4 +56,5 @@ pub fn build(
         }
     }
 }
+
 mod widen;

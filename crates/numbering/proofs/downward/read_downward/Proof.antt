@@ -41,9 +41,17 @@ read-node-requires : tie.Need-read-node-requires Inv-loop μ-loop
 read-node-requires c κs =
     let e = c .before .wide .ensures .0 in
     let known = rw (← e) at (node-at (c .before .before .before .before .before .before .before .before .before .before .before .pre .1 .tree-of) (c .before .before .before .before .loop .i) (c .before .before .before .loop-test .taken) .known) in
-    let t = c .before .before .before .before .before .before .before .before .before .before .before .pre .1 .tree-of in
-    (c .before .before .before .before .before .before .before .before .before .before .before .pre .0, known, c .before .before .before .before .before .before .before .before .before .before .before .pre .2, c .before .before .before .before .before .before .before .before .before .before .before .pre .3, c .before .before .before .before .before .down-starts .ensures .each _ known, c .before .before .before .before .before .before .before .before .before .before .before .pre .4, c .before .before .before .before .before .before .before .before .before .before .before .pre .5, c .before .before .before .before .loop .inv .feasible-long,
-    going-children (c .before .before .before .before .loop .inv) t (c .before .before .before .before .before .before .before .before .before .before .before .pre .8 t) (c .before .before .before .before .before .before .before .before .before .before .before .pre .0 .accepted) (c .before .before .before .loop-test .taken) _ e)
+    let t = c .before .before .before .before .before .before .before .before .before .before .before .pre .1 .tree-of in (
+      c .before .before .before .before .before .before .before .before .before .before .before .pre .0,
+      known,
+      c .before .before .before .before .before .before .before .before .before .before .before .pre .2,
+      c .before .before .before .before .before .before .before .before .before .before .before .pre .3,
+      c .before .before .before .before .before .down-starts .ensures .each _ known,
+      c .before .before .before .before .before .before .before .before .before .before .before .pre .4,
+      c .before .before .before .before .before .before .before .before .before .before .before .pre .5,
+      c .before .before .before .before .loop .inv .feasible-long,
+      going-children (c .before .before .before .before .loop .inv) t (c .before .before .before .before .before .before .before .before .before .before .before .pre .8 t) (c .before .before .before .before .before .before .before .before .before .before .before .pre .0 .accepted) (c .before .before .before .loop-test .taken) _ e,
+    )
 
 enum-told : tie.Need-enum-told Inv-loop μ-loop
 enum-told c = search needs

@@ -20,7 +20,7 @@ use Rattle.numbering.proofs.numbers.number_slot.Reads as number-slot-re
 use Rattle.numbering.proofs.wide.Reads as wide-reads
 
 abbrev Inv-loop : tie.InvT-loop
-Inv-loop book places sheet down ends entries groups₀ firsts stamps₀ held₀ width next₀ i₀ groups stamps held next i = 
+Inv-loop book places sheet down ends entries groups₀ firsts stamps₀ held₀ width next₀ i₀ groups stamps held next i =
     Walking book sheet down ends entries groups₀ stamps held groups next i × Firsts (grammar book) sheet firsts
 
 abbrev μ-loop : tie.MeasureT-loop
@@ -78,9 +78,20 @@ number-node-requires c κs =
     let s = c .before .before .before .before .before .before .before .before .before .before .before .before .before .before .before .before .before .before .before .before .before .before .before .before .before in
     let k = c .before .before .before .before .before .before .loop .inv .0 in
     let t = c .before .before .before .before .before .loop-test .taken in
-    let a = s .pre .0 .accepted in
-    (s .pre .0, t, walking-known k (s .pre .2) a t, walking-low k (s .pre .2) a t, walking-children k (s .pre .2) a t, walking-kinds k (s .pre .2) a t, c .before .before .before .before .before .before .loop .inv .1,
-    omega (arith, k .room, k .long), s .pre .4, c .before .before .before .before .before .before .loop .inv .1 .long, k .stamps-long, k .numbers-long)
+    let a = s .pre .0 .accepted in (
+      s .pre .0,
+      t,
+      walking-known k (s .pre .2) a t,
+      walking-low k (s .pre .2) a t,
+      walking-children k (s .pre .2) a t,
+      walking-kinds k (s .pre .2) a t,
+      c .before .before .before .before .before .before .loop .inv .1,
+      omega (arith, k .room, k .long),
+      s .pre .4,
+      c .before .before .before .before .before .before .loop .inv .1 .long,
+      k .stamps-long,
+      k .numbers-long,
+    )
 
 add-i : tie.Need-add-i Inv-loop μ-loop
 add-i c = search needs

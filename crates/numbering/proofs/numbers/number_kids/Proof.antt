@@ -16,7 +16,7 @@ use Rattle.numbering.proofs.span.Reads as span-reads
 use Rattle.numbering.proofs.wide.Reads as wide-reads
 
 abbrev Inv-loop : tie.InvT-loop
-Inv-loop book places sheet p down entry ends firsts i stamp first stamps₀ held₀ groups₀ place kids next₀ child₀ j₀ stamps held groups next child j = 
+Inv-loop book places sheet p down entry ends firsts i stamp first stamps₀ held₀ groups₀ place kids next₀ child₀ j₀ stamps held groups next child j =
     Naming book sheet down entry p place kids ends firsts i stamp first stamps₀ held₀ groups₀ stamps held groups next child j
 
 abbrev μ-loop : tie.MeasureT-loop

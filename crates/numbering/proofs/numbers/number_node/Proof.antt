@@ -66,9 +66,19 @@ hold-own-requires c κs =
 number-kids-requires : tie.Need-number-kids-requires
 number-kids-requires c κs =
     let s = c .before .before .before .before .before .before .before .before .before .before .before .before .before .before .before .before .before .before .before in
-    let e = c .before .before .before .before .before .before .before .before .before .before .before .before .before .wide .ensures .0 in
-    (s .pre .0, rw e (s .pre .2), s .pre .3, rw e (s .pre .4), rw e (s .pre .5), s .pre .6, s .pre .7, s .pre .8, s .pre .9,
-    c .before .before .before .hold-own .ensures .stamps-kept ∙ s .pre .10, c .before .before .before .hold-own .ensures .numbers-kept ∙ s .pre .11)
+    let e = c .before .before .before .before .before .before .before .before .before .before .before .before .before .wide .ensures .0 in (
+      s .pre .0,
+      rw e (s .pre .2),
+      s .pre .3,
+      rw e (s .pre .4),
+      rw e (s .pre .5),
+      s .pre .6,
+      s .pre .7,
+      s .pre .8,
+      s .pre .9,
+      c .before .before .before .hold-own .ensures .stamps-kept ∙ s .pre .10,
+      c .before .before .before .hold-own .ensures .numbers-kept ∙ s .pre .11,
+    )
 
 same-length : tie.Need-same-length
 same-length c = c .before .before .number-kids .ensures .long
