@@ -12,9 +12,11 @@ mod shape;
 mod totals;
 mod upward;
 mod visit;
+mod widen;
 
 ghost use Rattle.tables.specs.Promise.{BuildDue};
 ghost use Rattle.tables.specs.Answer.{said, lent};
+
 pub use blocks::block_size;
 pub use blocks::first_occurrence;
 pub use blocks::occurrences;
@@ -56,5 +58,3 @@ pub fn build(
         }
     }
 }
-
-mod widen;
