@@ -16,7 +16,6 @@ mod widen;
 
 ghost use Rattle.tables.specs.Promise.{BuildDue};
 ghost use Rattle.tables.specs.Answer.{said, lent};
-
 pub use blocks::block_size;
 pub use blocks::first_occurrence;
 pub use blocks::occurrences;
