@@ -45,7 +45,7 @@ pub fn build(
         book::Checked::Refused { number, place } => Built::Refused { number, place },
         book::Checked::Accepted { kinds, productions } => {
             if making::too_short(
-                making::span(kinds),
+                widen::span(kinds),
                 plausible.len(),
                 counts.len(),
                 feasible.len(),
