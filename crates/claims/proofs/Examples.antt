@@ -15,7 +15,8 @@ use Rattle.book.specs.Format.{entry, grammar}
 use Rattle.sheet.specs.Reading.{Node, due, Read, begun, further, settings-of}
 use Rattle.sheet.specs.Refusals as sheet
 use Rattle.sheet.specs.Stops.{Unknown, Unfit, Deep, Fault, unknown, unfit, deep, Stop}
-use Rattle.sheet.proofs.Trees.{Drawn, Fits, sheet-tree}
+use Rattle.sheet.specs.Trees.{Drawn, Fits}
+use Rattle.sheet.proofs.Trees.{sheet-tree}
 use Rattle.sheet.proofs.Refusals.{stop-refused}
 use Rattle.ranks.specs.Entries.{choices, choice, up-start, down-start}
 use Rattle.tables.specs.Promise as tables
