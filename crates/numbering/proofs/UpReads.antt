@@ -18,10 +18,10 @@ use Rattle.ranks.specs.declared.Plausible.{Plausible}
 use Rattle.ranks.specs.declared.UpRead.{UpRead}
 use Rattle.ranks.specs.declared.UpRead.the-variants as read
 use Rattle.ranks.proofs.Padded.{CountsPadded, RanksPadded, up-number-is}
-use Rattle.numbering.specs.Walk.{Tables, ranks}
+use Rattle.numbering.specs.Walk.{Tables, tables, ranks}
 use Rattle.numbering.specs.Promise.{TreeOf, BadUp}
 use Rattle.numbering.specs.Visits.{rank-of}
-use Rattle.numbering.specs.Parts.{tables, Sheeted, Children, Kindred, Ended, Ranked, NoBadUp, UpNodeIs, UpNodeRead, UpIs, UpReads}
+use Rattle.numbering.specs.Parts.{Sheeted, Children, Kindred, Ended, Ranked, NoBadUp, UpNodeIs, UpNodeRead, UpIs, UpReads}
 use Rattle.numbering.specs.declared.upward.UpNode.{UpNode}
 use Rattle.numbering.specs.declared.upward.UpNode.the-variants as node
 use Rattle.numbering.specs.declared.Reads.{Reads}

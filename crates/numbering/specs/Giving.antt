@@ -11,10 +11,10 @@ use Rattle.chains.specs.Grammar.{Grammar}
 use Rattle.chains.specs.Tree.{Bush, size}
 use Rattle.book.specs.Format.{grammar}
 use Rattle.sheet.specs.Reading.{settings-of}
-use Rattle.numbering.specs.Walk.{Tables, Held, holder, holds, held, numbered, unused, slot-labels, kid-labels, own-held, group-numbers}
+use Rattle.numbering.specs.Walk.{Tables, tables, Held, holder, holds, held, numbered, unused, slot-labels, kid-labels, own-held, group-numbers}
 use Rattle.numbering.specs.Promise.{TreeOf}
 use Rattle.numbering.specs.Visits.{entry-in, visit}
-use Rattle.numbering.specs.Parts.{tables, Ended, child-at}
+use Rattle.numbering.specs.Parts.{Ended, child-at}
 
 -- the three places of each of n nodes, from node i on
 unfoldable pub rows : List ℕ → List ℕ → List ℕ → ℕ → ℕ → List ℕ

@@ -1,5 +1,7 @@
 pub mod Walk
 pub mod Promise
+pub mod Answer
 pub mod Visits
 pub mod Parts
 pub mod Giving
+pub mod Admitting

@@ -14,7 +14,7 @@ use Rattle.book.specs.Reading.{Index}
 use Rattle.book.proofs.Accepted.{Accepted}
 use Rattle.ranks.specs.Entries.{up-start, down-start}
 use Rattle.ranks.specs.Reads.{child-rank-at}
-use Rattle.numbering.specs.Walk.{Tables, started}
+use Rattle.numbering.specs.Walk.{Tables, tables, started}
 use Rattle.numbering.specs.Promise.{TreeOf, BadUp, BadRoot, BadDown, entry-at}
 use Rattle.numbering.specs.Visits.{rank-of, entry-in, visit}
 use Rattle.numbering.specs.declared.upward.UpNode.{UpNode}
@@ -23,9 +23,6 @@ use Rattle.numbering.specs.declared.downward.DownNode.{DownNode}
 use Rattle.numbering.specs.declared.downward.DownNode.the-variants as down
 use Rattle.numbering.specs.declared.Reads.{Reads}
 use Rattle.numbering.specs.declared.Reads.the-variants.{All, Bad}
-
-abbrev pub tables : List ℕ → List ℕ → List ℕ → List ℕ → Tables
-tables c d u w = record { plausible-counts = c; feasible-counts = d; up = u; down = w }
 
 -- an accepted book, with the places of its entries
 pub record Indexed (b places : List ℕ) : Type 0 where

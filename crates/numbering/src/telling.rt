@@ -5,7 +5,7 @@ ghost use Prim.Native.Nat.{_*_, _≤_};
 ghost use lib.ListN.{length, drop};
 ghost use Rattle.chains.specs.Limits.{max-nodes};
 ghost use Rattle.numbering.specs.Giving.{rows};
-use super::limits::NODES;
+use super::limits::{NODES, PLACES};
 use super::long;
 
 pub fn tell(n: usize, plausible: &[u8; NODES], feasible: &[u8; NODES], entries: &[u64; NODES], nodes: &mut [u64])
@@ -14,9 +14,9 @@ pub fn tell(n: usize, plausible: &[u8; NODES], feasible: &[u8; NODES], entries: 
 {
     let mut i = 0;
     while i < n {
-        nodes[3 * i] = long(plausible[i]);
-        nodes[3 * i + 1] = long(feasible[i]);
-        nodes[3 * i + 2] = entries[i];
+        nodes[PLACES * i] = long(plausible[i]);
+        nodes[PLACES * i + 1] = long(feasible[i]);
+        nodes[PLACES * i + 2] = entries[i];
         i += 1;
     }
 }
