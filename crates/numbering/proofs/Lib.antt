@@ -16,3 +16,7 @@ pub mod UpReads
 pub mod DownReads
 pub mod Instances
 pub mod Walking
+pub mod Turns
+pub mod Due
+pub mod Choosing
+pub mod Measured

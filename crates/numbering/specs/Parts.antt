@@ -154,6 +154,8 @@ ChoiceIs G T f plausible ends feasible entries (Bad p) =
     (t : ℕ) × Fails G T f (size f) p t × ((p′ t′ : ℕ) → t′ < t → Fails G T f (size f) p′ t′ → ⊥)
 
 pub record Choice (b l c d u w plausible ends feasible entries : List ℕ) (r : Reads) : Type 0 where
+  pub plausible-long : length plausible ≡ max-nodes
+  pub ends-long : length ends ≡ max-nodes
   pub feasible-long : length feasible ≡ max-nodes
   pub entries-long : length entries ≡ max-nodes
   pub case : (t : TreeOf (grammar b) l) → ChoiceIs (grammar b) (tables c d u w) (t .tree) plausible ends feasible entries r
