@@ -5,6 +5,7 @@ mod labels;
 mod sets;
 mod shape;
 mod totals;
+mod widen;
 
 pub use blocks::block_size;
 pub use blocks::first_occurrence;

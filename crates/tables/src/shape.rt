@@ -1,7 +1,5 @@
 // The shape of a production: its number of children, and the kind and the number of settings of each slot. It is read off the book once for all
 // the entries that the production has.
-ghost use mathlib.Core.Path.{_≡_};
-ghost use Prim.Native.Nat.{_<_};
 ghost use Rattle.tables.specs.Shape.{ShapeAt};
 use super::labels::width;
 
@@ -12,18 +10,6 @@ pub struct Shape {
     pub arity: u8,
     pub kinds: [u8; SLOTS],
     pub widths: [u8; SLOTS],
-}
-
-pub fn wide(x: u8) -> usize
-    ensures { λ r. ⌜ (r ≡ x) × (r < 256) ⌝ }
-{
-    x as usize
-}
-
-pub fn span(x: u16) -> usize
-    ensures { λ r. ⌜ (r ≡ x) × (r < 65536) ⌝ }
-{
-    x as usize
 }
 
 // The shape of the production whose entry stands at `at`.

@@ -9,8 +9,8 @@ ghost use Rattle.tables.specs.Promise.{up-entries, down-entries};
 ghost use Rattle.tables.specs.Shape.{Opened, Small, Countable, kinds-from};
 use super::shape::Shape;
 use super::shape::shape_of;
-use super::shape::span;
-use super::shape::wide;
+use super::widen::span;
+use super::widen::wide;
 
 fn long(x: u8) -> u64
     ensures { λ r. ⌜ (r ≡ x) × (r < 256) ⌝ }
