@@ -12,6 +12,7 @@ mod shape;
 mod totals;
 mod upward;
 mod visit;
+mod widen;
 
 ghost use Rattle.tables.specs.Promise.{BuildDue};
 ghost use Rattle.tables.specs.Answer.{said, lent};
@@ -44,7 +45,7 @@ pub fn build(
         book::Checked::Refused { number, place } => Built::Refused { number, place },
         book::Checked::Accepted { kinds, productions } => {
             if making::too_short(
-                making::span(kinds),
+                widen::span(kinds),
                 plausible.len(),
                 counts.len(),
                 feasible.len(),
@@ -56,4 +57,3 @@ pub fn build(
         }
     }
 }
-mod widen;

@@ -4,10 +4,9 @@ ghost use Prim.Native.Nat.{_*_, _<_, _≤_};
 ghost use lib.ListN.{length};
 ghost use Rattle.lists.specs.Refusals.{refused};
 ghost use Rattle.book.specs.Format.{grammar};
-ghost use Rattle.tables.specs.Promise.{BuildDue};
-ghost use Rattle.tables.specs.Promise.{wiped};
+ghost use Rattle.tables.specs.Promise.{wiped, BuildDue};
 ghost use Rattle.tables.specs.Answer.{said, lent};
-ghost use Rattle.tables.specs.Fill.{Opened};
+ghost use Rattle.tables.specs.Shape.{Opened};
 ghost use Rattle.tables.specs.Making.{Measured, Ready, Settled, Tabled, Worked};
 use super::Built;
 use super::downward::downward;
@@ -15,18 +14,13 @@ use super::fill::fill_down;
 use super::fill::fill_up;
 use super::sets::MAX_MEMBERS;
 use super::sets::wipe8;
+use super::sets::wipe32;
 use super::totals::total_down;
 use super::totals::total_up;
 use super::upward::upward;
 
 // Bytes of a down entry.
 const ENTRY: u64 = 44;
-
-pub fn span(x: u16) -> usize
-    ensures { λ r. ⌜ (r ≡ x) × (r < 65536) ⌝ }
-{
-    x as usize
-}
 
 fn long(x: usize) -> u64
     ensures { λ r. ⌜ r ≡ x ⌝ }
@@ -40,8 +34,6 @@ pub fn refused(number: u8) -> Built
 {
     Built::Refused { number, place: 0 }
 }
-
-use super::sets::wipe32;
 
 // Whether some set slice has too few places for n kinds, or some count slice.
 pub fn too_short(n: usize, plausible: usize, counts: usize, feasible: usize, tally: usize) -> bool

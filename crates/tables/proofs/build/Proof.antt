@@ -8,7 +8,7 @@ use Rattle.tables.proofs.build.Lts as lts
 use Rattle.book.proofs.check_book.Reads as check-book-reads
 use Rattle.tables.proofs.making.refused.Reads as refused-reads
 use Rattle.tables.proofs.making.run.Reads as run-reads
-use Rattle.tables.proofs.making.span.Reads as span-reads
+use Rattle.tables.proofs.widen.span.Reads as span-reads
 use Rattle.tables.proofs.making.too_short.Reads as too-short-reads
 
 check-book-requires : tie.Need-check-book-requires
