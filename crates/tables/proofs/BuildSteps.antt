@@ -16,9 +16,8 @@ use Rattle.ranks.specs.Entries.{entry-bytes}
 use Rattle.tables.specs.Sets.{Holds}
 use Rattle.tables.specs.Entries.{UpTable, DownTable}
 use Rattle.tables.specs.Promise.{Lent, up-entries, down-entries, Written, wiped, BuildDue}
-use Rattle.tables.specs.Sweep.{Outcome}
-use Rattle.tables.specs.Sweep as sweep
-use Rattle.tables.specs.Fill.{Opened, Exact}
+use Rattle.tables.specs.Sweep.{Exact, Outcome}
+use Rattle.tables.specs.Shape.{Opened}
 use Rattle.tables.specs.declared.Built.{Built}
 use Rattle.tables.specs.declared.Built.the-variants.{Accepted, Refused}
 use Rattle.tables.specs.Answer.{said, lent}
@@ -37,7 +36,7 @@ module _ {b : List ℕ} {m : Lent} (ready : Ready b m) where
   worked-plausible m′ a o e q = rw q (record { due = (refuse-plausible ready (o .over e), omega arith) })
 
   module _ {s c : List ℕ} {r : Bool} (o : Outcome (kinds b) (Plausible (grammar b)) (m .plausible) (m .plausible-counts) s c r) (e : r ≡ true) where
-    pub plausible-held : sweep.Exact (kinds b) (Plausible (grammar b)) s c
+    pub plausible-held : Exact (kinds b) (Plausible (grammar b)) s c
     plausible-held = record {
       fine = holds-fine (ready .room .plausible) (ready .room .plausible-counts) (o .holds e);
       whole = λ k x h. o .holds e .exactly k x h .1;
@@ -50,7 +49,7 @@ module _ {b : List ℕ} {m : Lent} (ready : Ready b m) where
     module _ {f d : List ℕ} {q : Bool} (p : Outcome (kinds b) (Feasible (grammar b)) (m .feasible) (m .feasible-counts) f d q) (z : q ≡ true) where
       pub settled : Settled b s c f d
       settled = record {
-        plausible = record { fine = plausible-held .fine; whole = plausible-held .whole };
+        plausible = plausible-held;
         feasible = record {
           fine = holds-fine (ready .room .feasible) (ready .room .feasible-counts) (p .holds z);
           whole = λ k x h. p .holds z .exactly k x h .1;

@@ -22,7 +22,8 @@ use Rattle.tables.specs.Entries.{Ranks, picked, Downward, Labelled, Down
 use Rattle.tables.specs.Promise.{down-entries, Written}
 use Rattle.tables.specs.State.{based}
 use Rattle.tables.specs.Shape.{kind-of, kinds-from, ShapeAt, Opened}
-use Rattle.tables.specs.Fill.{tied, tied-once, Listed, DownBytes, Entry, Laid, chosen, ByAllRanks, AllChoices, AllAsked, Exact, DownRun, DownAll}
+use Rattle.tables.specs.Sweep.{Exact}
+use Rattle.tables.specs.Fill.{tied, tied-once, Listed, DownBytes, Entry, Laid, chosen, ByAllRanks, AllChoices, AllAsked, DownRun, DownAll}
 use Rattle.tables.specs.declared.shape.Shape.{Shape}
 use Rattle.tables.specs.declared.entry.Table.the-variants.{Down}
 use Rattle.tables.proofs.Members.{ranked-has}

@@ -18,7 +18,8 @@ use Rattle.tables.specs.Entries.{Ranks, picked, Ranked}
 use Rattle.tables.specs.Memory.{Fine}
 use Rattle.tables.specs.State.{based}
 use Rattle.tables.specs.Shape.{ShapeAt, Sized, AllPlaced}
-use Rattle.tables.specs.Fill.{Ready, tied-once, tied, RankOn, Exact}
+use Rattle.tables.specs.Sweep.{Exact}
+use Rattle.tables.specs.Fill.{Ready, tied-once, tied, RankOn}
 use Rattle.tables.specs.declared.shape.Shape.{Shape}
 use Rattle.tables.proofs.Members.{ranked-has}
 use Rattle.tables.proofs.Memory.{fine-placed}

@@ -22,7 +22,8 @@ use Rattle.tables.specs.Entries.{Ranks, picked, Upward, Ranked, UpTable}
 use Rattle.tables.specs.Promise.{up-entries, Written}
 use Rattle.tables.specs.State.{based}
 use Rattle.tables.specs.Shape.{kinds-from, ShapeAt, Opened}
-use Rattle.tables.specs.Fill.{tied, Listed, Laid, chosen, Choices, Asked, Exact, UpRun, UpAll}
+use Rattle.tables.specs.Sweep.{Exact}
+use Rattle.tables.specs.Fill.{tied, Listed, Laid, chosen, Choices, Asked, UpRun, UpAll}
 use Rattle.tables.specs.declared.shape.Shape.{Shape}
 use Rattle.tables.specs.declared.entry.Table.the-variants.{Up}
 use Rattle.tables.proofs.StateBase.{few-settings}

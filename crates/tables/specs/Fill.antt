@@ -12,7 +12,6 @@ use Rattle.chains.specs.State.{code-pairs, code-on}
 use Rattle.ranks.specs.Entries.{choices, choice, up-entry, down-entry, labels, entry-bytes, none}
 use Rattle.tables.specs.Sets.{Has, member}
 use Rattle.tables.specs.Entries.{Ranks, picked, Upward, Downward, Ranked, DownEntry}
-use Rattle.tables.specs.Memory.{Fine}
 use Rattle.tables.specs.State.{State, Whole, tidied}
 use Rattle.tables.specs.Shape.{kind-of, width-of, kinds-from, Sized, AllPlaced}
 use Rattle.tables.specs.declared.shape.Shape.{Shape}
@@ -118,11 +117,6 @@ pub record Asked (table : Table) (v : Shape) (t : ℕ) (s c f d x out : List ℕ
   pub room : a + choices c (kinds-from v t) * entry-size table ≤ length out
 
 -- ── the entries of a production of the grammar ──
--- s and c hold, for each of the first n kinds, exactly what has P
-pub record Exact (n : ℕ) (P : ℕ → ℕ → Type 0) (s c : List ℕ) : Type 0 where
-  pub fine : Fine n P s c
-  pub whole : (k x : ℕ) → k < n → P k x → Has s c k x
-
 -- production p's entries of the up table, by their number among them
 abbrev pub UpRun : Grammar → (s c : List ℕ) → ℕ → ℕ → List ℕ → Type 0
 UpRun G s c p = ByRanks c (G .kids p) (λ rs e. Ranked s c (width G p 0) (G .left p) 0 (Upward G p (picked s (G .kids p) rs)) (getD e 0 none))

@@ -16,7 +16,7 @@ use Rattle.book.proofs.Accepted.{Accepted}
 use Rattle.ranks.specs.Entries.{entry-bytes}
 use Rattle.tables.specs.Entries.{UpTable, DownTable}
 use Rattle.tables.specs.Promise.{Lent, up-entries, down-entries, Applies, Written, Built}
-use Rattle.tables.specs.Fill.{Exact}
+use Rattle.tables.specs.Sweep.{Exact}
 
 -- ── room ──
 -- by their lengths, sets or counts have too few places for n kinds
