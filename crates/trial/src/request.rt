@@ -1,7 +1,9 @@
 // A request taken apart: a byte for the call, then each argument as four bytes of length and the bytes.
 ghost use Prim.Native.Nat.{_+_, _*_, _-_, _<_, _≤_};
 ghost use mathlib.Core.Path.{_≡_};
+ghost use mathlib.Core.Bool.{false};
 ghost use lib.ListN.{length, take, drop};
+ghost use Rattle.trial.specs.Requests.{Follows, Exactly, Ended};
 use crate::numbers::{four, least};
 
 // Where an argument stands. It is not whole where it, or one before it, is malformed or over its room.
@@ -11,7 +13,9 @@ pub struct Part {
     pub end: usize,
 }
 
-fn broken() -> Part {
+fn broken() -> Part
+    ensures { λ r. ⌜ r .whole ≡ false ⌝ }
+{
     Part {
         whole: false,
         from: 0,
@@ -31,6 +35,7 @@ pub fn opening() -> Part {
 // The argument after another: so many elements of `width` bytes as there is room for, or fewer.
 pub fn argument(request: &[u8], before: Part, width: usize, room: usize) -> Part
     requires { ⌜ 0 < width ⌝ }
+    ensures { λ r. ⌜ Follows (now (request .entry)) before width room r ⌝ }
 {
     let at = before.end;
     if !before.whole {
@@ -61,7 +66,9 @@ pub fn argument(request: &[u8], before: Part, width: usize, room: usize) -> Part
 }
 
 // An argument of exactly so many bytes.
-pub fn exactly(p: Part, bytes: usize) -> Part {
+pub fn exactly(p: Part, bytes: usize) -> Part
+    ensures { λ r. ⌜ Exactly p bytes r ⌝ }
+{
     if p.end < p.from {
         return broken();
     }
@@ -72,12 +79,22 @@ pub fn exactly(p: Part, bytes: usize) -> Part {
 }
 
 // All arguments are whole and nothing is left after the last.
-pub fn ends(request: &[u8], last: Part) -> bool {
-    if last.whole { last.end == request.len() } else { false }
+pub fn ends(request: &[u8], last: Part) -> bool
+    ensures { λ r. ⌜ Ended (now (request .entry)) last r ⌝ }
+{
+    if !last.whole {
+        return false;
+    }
+    if last.end != request.len() {
+        return false;
+    }
+    true
 }
 
 // An argument's bytes.
-pub fn bytes(request: &[u8], p: Part) -> &[u8] {
+pub fn bytes(request: &[u8], p: Part) -> &[u8]
+    ensures { λ r. ⌜ (p .from ≤ p .end → p .end ≤ length (now (request .entry)) → now r ≡ take (p .end - p .from) (drop (p .from) (now (request .entry)))) ⌝ }
+{
     let end = least(p.end, request.len());
     let from = least(p.from, end);
     &request[from..end]
