@@ -3,9 +3,8 @@
 //
 // What goes out no contract can say; what stands in the buffer afterwards it does.
 ghost use mathlib.Core.Path.{_≡_};
-ghost use Prim.Native.Nat.{_+_, _≤_};
+ghost use Prim.Native.Nat.{_+_, _≤_, _<_};
 ghost use lib.ListN.{length};
-ghost use lib.Dec.{leb};
 ghost use Rattle.text.specs.Held.{laid, Put, PutDecimal};
 
 // Digits of the largest number.
@@ -24,10 +23,21 @@ pub fn flush(fd: i32, out: &[u8], held: usize) {
 pub fn word(fd: i32, out: &mut [u8], held: usize, w: &[u8]) -> usize
     ensures { λ r. ⌜ Put (now (out .entry)) held (now (w .entry)) (now (out .exit)) r ⌝ }
 {
-    if has_room(out.len(), held, w.len()) {
-        lay(out, held, w);
-        return held + w.len();
+    if out.len() < held {
+        return afresh(fd, out, held, w);
     }
+    if out.len() - held < w.len() {
+        return afresh(fd, out, held, w);
+    }
+    lay(out, held, w);
+    held + w.len()
+}
+
+// The word has no room behind what is held, which goes out.
+fn afresh(fd: i32, out: &mut [u8], held: usize, w: &[u8]) -> usize
+    requires { ⌜ length (now out) < held + length (now w) ⌝ }
+    ensures { λ r. ⌜ Put (now (out .entry)) held (now (w .entry)) (now (out .exit)) r ⌝ }
+{
     flush(fd, out, held);
     if w.len() <= out.len() {
         lay(out, 0, w);
@@ -44,18 +54,6 @@ pub fn decimal(fd: i32, out: &mut [u8], held: usize, n: u64) -> usize
     let mut digits = [0u8; MOST_DIGITS];
     let k = io::decimal(n, &mut digits);
     word(fd, out, held, &digits[..k])
-}
-
-fn has_room(room: usize, held: usize, more: usize) -> bool
-    ensures { λ r. ⌜ r ≡ leb (held + more) room ⌝ }
-{
-    if room < held {
-        return false;
-    }
-    if room - held < more {
-        return false;
-    }
-    true
 }
 
 fn lay(out: &mut [u8], at: usize, w: &[u8])
