@@ -45,7 +45,14 @@ fn build(sheet: &[u8], book: &[u8]) {
     }
 }
 
-fn group(book: &[u8], sheet: &[u8], plausible_counts: &[u8], feasible_counts: &[u8], up: &[u8], down: &[u8]) {
+fn group(
+    book: &[u8],
+    sheet: &[u8],
+    plausible_counts: &[u8],
+    feasible_counts: &[u8],
+    up: &[u8],
+    down: &[u8],
+) {
     let mut nodes = [0u64; room::NODE_PLACES];
     let mut groups = [0u16; room::GROUP_PLACES];
     match numbering::group_sheet(

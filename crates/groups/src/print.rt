@@ -2,6 +2,7 @@
 ghost use Prim.Native.Nat.{_+_, _<_, _≤_};
 ghost use mathlib.Core.Path.{_≡_};
 ghost use lib.ListN.{length};
+use book::limits::MAX_PRODUCTIONS;
 use libc::STDOUT_FILENO;
 
 // Bytes that gather before they are written.
@@ -30,7 +31,15 @@ pub fn refused(number: u8, place: u16) {
     text::flush(STDOUT_FILENO, &out, h);
 }
 
-pub fn accepted(book: &[u8], sheet: &[u8], nodes: &[u64], groups: &[u16], n: u16, settings: u16, g: u16) {
+pub fn accepted(
+    book: &[u8],
+    sheet: &[u8],
+    nodes: &[u64],
+    groups: &[u16],
+    n: u16,
+    settings: u16,
+    g: u16,
+) {
     let mut out = [0u8; ROOM];
     let h = text::word(STDOUT_FILENO, &mut out, 0, b"ok");
     let h = next_number(&mut out, h, n as u64);
@@ -42,7 +51,14 @@ pub fn accepted(book: &[u8], sheet: &[u8], nodes: &[u64], groups: &[u16], n: u16
 }
 
 // A line for each node of the sheet.
-fn lines(out: &mut [u8], held: usize, book: &[u8], sheet: &[u8], nodes: &[u64], groups: &[u16]) -> usize {
+fn lines(
+    out: &mut [u8],
+    held: usize,
+    book: &[u8],
+    sheet: &[u8],
+    nodes: &[u64],
+    groups: &[u16],
+) -> usize {
     let places = book::index(book);
     let mut h = held;
     let mut next = 0;
@@ -57,7 +73,14 @@ fn lines(out: &mut [u8], held: usize, book: &[u8], sheet: &[u8], nodes: &[u64], 
 }
 
 // Position, production, plausible rank, feasible rank, down entry, group numbers.
-fn line(out: &mut [u8], held: usize, i: usize, production: u8, nodes: &[u64], groups: &[u16]) -> usize {
+fn line(
+    out: &mut [u8],
+    held: usize,
+    i: usize,
+    production: u8,
+    nodes: &[u64],
+    groups: &[u16],
+) -> usize {
     let h = number(out, held, i as u64);
     let h = next_number(out, h, production as u64);
     let h = next_number(out, h, told(nodes, i, 0));
@@ -85,13 +108,17 @@ fn numbers(out: &mut [u8], held: usize, groups: &[u16]) -> usize {
 fn told(nodes: &[u64], i: usize, j: usize) -> u64
     requires { ⌜ j < 3 ⌝ }
 {
-    if i < nodes.len() / 3 { nodes[3 * i + j] } else { 0 }
+    if i < nodes.len() / 3 {
+        nodes[3 * i + j]
+    } else {
+        0
+    }
 }
 
 // The settings of a production's left kind.
-fn settings(book: &[u8], places: &[usize; 64], production: u8) -> usize {
+fn settings(book: &[u8], places: &[usize; MAX_PRODUCTIONS as usize], production: u8) -> usize {
     let p = production as usize;
-    if p < 64 {
+    if p < MAX_PRODUCTIONS as usize {
         book::settings(book, book::left(book, places[p])) as usize
     } else {
         0
@@ -103,5 +130,9 @@ fn group_end(groups: &[u16], from: usize, more: usize) -> usize
     requires { ⌜ from ≤ length (now groups) ⌝ }
     ensures { λ r. ⌜ (from ≤ r) × (r ≤ length (now (groups .entry))) ⌝ }
 {
-    if groups.len() - from < more { groups.len() } else { from + more }
+    if groups.len() - from < more {
+        groups.len()
+    } else {
+        from + more
+    }
 }

@@ -1,7 +1,7 @@
 // The room that the program has for a vehicle, in elements.
 
 // Sets and counts for every kind that a book can have.
-pub const KINDS: usize = 32;
+pub const KINDS: usize = book::limits::MAX_KINDS as usize;
 
 pub const SET_PLACES: usize = 64 * KINDS;
 
@@ -9,13 +9,12 @@ pub const UP_ENTRIES: usize = 8192;
 
 pub const DOWN_ENTRIES: usize = 1489;
 
-// 44 bytes for each entry.
-pub const DOWN_BYTES: usize = 44 * DOWN_ENTRIES;
+pub const DOWN_BYTES: usize = ranks::ENTRY * DOWN_ENTRIES;
 
 pub const NODES: usize = 2730;
 
 // Three places for each node.
 pub const NODE_PLACES: usize = 3 * NODES;
 
-// As many settings as a node can have.
-pub const GROUP_PLACES: usize = 8 * NODES;
+// As many places for each node as a kind can have settings.
+pub const GROUP_PLACES: usize = book::limits::MAX_SETTINGS as usize * NODES;

@@ -26,7 +26,7 @@ started number width s l {n} q e h =
       within = omega arith;
       there = le-trans (mul-le-mul-right width few) h;
       room = rw e (min-le-right q (length l));
-      long = refl
+      long = refl;
     }
 
 pub stored : {number : List ℕ → ℕ → ℕ} {width : ℕ} {s l : List ℕ} {n : ℕ} {l′ : List ℕ} {i : ℕ} {v : ℕ}
@@ -34,17 +34,17 @@ pub stored : {number : List ℕ → ℕ → ℕ} {width : ℕ} {s l : List ℕ} 
 stored {number} {width} {s} {l} {n} {l′} {i} {v} c h e =
     let fits : i < length l′ = omega (arith, c .long, c .room) in
     let before : (k : ℕ) → k < i → getD (set l′ i v) k 0 ≡ number s (width * k) =
-        λ k b. getD-set-other l′ i k v 0 (λ q. omega arith) ∙ c .so-far .taken k b in
+    λ k b. getD-set-other l′ i k v 0 (λ q. omega arith) ∙ c .so-far .taken k b in
     record {
       so-far = record {
         taken = below-more _ i before (getD-set-same l′ i v 0 fits ∙ e);
         kept = λ k b. getD-set-other l′ i k v 0 (λ q. omega arith) ∙ c .so-far .kept k (omega arith);
-        long = length-set l′ i v ∙ c .long
+        long = length-set l′ i v ∙ c .long;
       };
       within = omega arith;
       there = c .there;
       room = c .room;
-      long = length-set l′ i v ∙ c .long
+      long = length-set l′ i v ∙ c .long;
     }
 
 pub ended : {number : List ℕ → ℕ → ℕ} {width : ℕ} {s l : List ℕ} {n m : ℕ} {l′ : List ℕ} {i : ℕ}

@@ -28,8 +28,8 @@ module _ {request : List ℕ} {before : Part} {width room : ℕ} {p : Part} wher
     over b l h =
         none
         (λ w f e a.
-            let same : n / width ≡ a .many = ap (λ (x : ℕ). x / width) (told ∙ a .whole) ∙ mul-div-left (a .many) l in
-            omega (arith, a .fits))
+        let same : n / width ≡ a .many = ap (λ (x : ℕ). x / width) (told ∙ a .whole) ∙ mul-div-left (a .many) l in
+        omega (arith, a .fits))
         b
 
     pub found : before .whole ≡ true → p .whole ≡ true → p .from ≡ before .end + 4 → p .end ≡ before .end + 4 + n → p .end ≤ length request
@@ -42,7 +42,7 @@ module _ {request : List ℕ} {before : Part} {width room : ℕ} {p : Part} wher
           within = i;
           many = n / width;
           whole = sym told ∙ sym (div-add-mod' n width) ∙ rw m (add-zero _);
-          fits = d
+          fits = d;
         })
         v
 

@@ -1,7 +1,13 @@
 // The build, on memory as the request lends it.
-use crate::numbers::{copy32, copy8};
+use crate::numbers::copy8;
+use crate::numbers::copy32;
+use crate::numbers::first8;
+use crate::numbers::first32;
 use crate::print;
-use crate::request::{argument, bytes, ends, first32, first8, opening};
+use crate::request::argument;
+use crate::request::bytes;
+use crate::request::ends;
+use crate::request::opening;
 use crate::room;
 use tables::Built;
 
@@ -28,7 +34,16 @@ pub fn build(request: &[u8], out: &mut [u8]) -> usize {
     )
 }
 
-fn lend(book: &[u8], plausible: &[u8], plausible_counts: &[u8], feasible: &[u8], feasible_counts: &[u8], up: &[u8], down: &[u8], out: &mut [u8]) -> usize {
+fn lend(
+    book: &[u8],
+    plausible: &[u8],
+    plausible_counts: &[u8],
+    feasible: &[u8],
+    feasible_counts: &[u8],
+    up: &[u8],
+    down: &[u8],
+    out: &mut [u8],
+) -> usize {
     let mut p = [0u32; room::SETS];
     let mut pc = [0u8; room::COUNTS];
     let mut f = [0u32; room::SETS];
@@ -53,13 +68,48 @@ fn lend(book: &[u8], plausible: &[u8], plausible_counts: &[u8], feasible: &[u8],
     )
 }
 
-fn show(book: &[u8], plausible: &mut [u32], plausible_counts: &mut [u8], feasible: &mut [u32], feasible_counts: &mut [u8], up: &mut [u8], down: &mut [u8], out: &mut [u8]) -> usize {
-    let answer = tables::build(book, plausible, plausible_counts, feasible, feasible_counts, up, down);
-    lines(answer, plausible, plausible_counts, feasible, feasible_counts, up, down, out)
+fn show(
+    book: &[u8],
+    plausible: &mut [u32],
+    plausible_counts: &mut [u8],
+    feasible: &mut [u32],
+    feasible_counts: &mut [u8],
+    up: &mut [u8],
+    down: &mut [u8],
+    out: &mut [u8],
+) -> usize {
+    let answer = tables::build(
+        book,
+        plausible,
+        plausible_counts,
+        feasible,
+        feasible_counts,
+        up,
+        down,
+    );
+    lines(
+        answer,
+        plausible,
+        plausible_counts,
+        feasible,
+        feasible_counts,
+        up,
+        down,
+        out,
+    )
 }
 
 // The answer, then each slice as it is at exit.
-fn lines(answer: Built, plausible: &[u32], plausible_counts: &[u8], feasible: &[u32], feasible_counts: &[u8], up: &[u8], down: &[u8], out: &mut [u8]) -> usize {
+fn lines(
+    answer: Built,
+    plausible: &[u32],
+    plausible_counts: &[u8],
+    feasible: &[u32],
+    feasible_counts: &[u8],
+    up: &[u8],
+    down: &[u8],
+    out: &mut [u8],
+) -> usize {
     let h = first_line(answer, out);
     let h = print::line32(out, h, plausible);
     let h = print::line8(out, h, plausible_counts);

@@ -1,11 +1,15 @@
 // The calls by their numbers. Each puts its answer into the buffer and answers how much is held.
-use book::Checked;
 use crate::build;
 use crate::group;
 use crate::numbers::eight;
 use crate::print;
-use crate::request::{argument, bytes, ends, exactly, opening};
+use crate::request::argument;
+use crate::request::bytes;
+use crate::request::ends;
+use crate::request::exactly;
+use crate::request::opening;
 use crate::room;
+use book::Checked;
 use sheet::SheetChecked;
 
 pub fn reply(request: &[u8], out: &mut [u8]) -> usize {
@@ -28,7 +32,11 @@ fn check_book(request: &[u8], out: &mut [u8]) -> usize {
         return print::malformed(out);
     }
     match book::check_book(bytes(request, book)) {
-        Checked::Accepted { kinds, productions } => print::pair(out, kinds as u64, productions as u64),
+        Checked::Accepted { kinds, productions } => print::pair(
+            out,
+            kinds as u64,
+            productions as u64,
+        ),
         Checked::Refused { number, place } => print::refused(out, number, place),
     }
 }
@@ -40,7 +48,11 @@ fn check_sheet(request: &[u8], out: &mut [u8]) -> usize {
         return print::malformed(out);
     }
     match sheet::check_sheet(bytes(request, book), bytes(request, sheet)) {
-        SheetChecked::Accepted { nodes, settings } => print::pair(out, nodes as u64, settings as u64),
+        SheetChecked::Accepted { nodes, settings } => print::pair(
+            out,
+            nodes as u64,
+            settings as u64,
+        ),
         SheetChecked::Refused { number, place } => print::refused(out, number, place),
     }
 }
@@ -52,7 +64,12 @@ fn block(request: &[u8], out: &mut [u8]) -> usize {
     if !ends(request, label) {
         return print::malformed(out);
     }
-    block_of(bytes(request, down), bytes(request, entry), bytes(request, label), out)
+    block_of(
+        bytes(request, down),
+        bytes(request, entry),
+        bytes(request, label),
+        out,
+    )
 }
 
 fn block_of(down: &[u8], entry: &[u8], label: &[u8], out: &mut [u8]) -> usize {
@@ -63,5 +80,10 @@ fn block_of(down: &[u8], entry: &[u8], label: &[u8], out: &mut [u8]) -> usize {
         return print::malformed(out);
     }
     let set = tables::occurrences(down, eight(entry, 0), label[0]);
-    print::block(out, set, tables::block_size(set), tables::first_occurrence(set))
+    print::block(
+        out,
+        set,
+        tables::block_size(set),
+        tables::first_occurrence(set),
+    )
 }

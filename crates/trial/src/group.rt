@@ -1,7 +1,13 @@
 // The sheet call, on anyone's tables and on memory as the request lends it.
-use crate::numbers::{copy16, copy64};
+use crate::numbers::copy16;
+use crate::numbers::copy64;
+use crate::numbers::first16;
+use crate::numbers::first64;
 use crate::print;
-use crate::request::{argument, bytes, ends, first16, first64, opening};
+use crate::request::argument;
+use crate::request::bytes;
+use crate::request::ends;
+use crate::request::opening;
 use crate::room;
 use numbering::Grouping;
 
@@ -30,7 +36,17 @@ pub fn group_sheet(request: &[u8], out: &mut [u8]) -> usize {
     )
 }
 
-fn lend(book: &[u8], sheet: &[u8], plausible_counts: &[u8], feasible_counts: &[u8], up: &[u8], down: &[u8], nodes: &[u8], groups: &[u8], out: &mut [u8]) -> usize {
+fn lend(
+    book: &[u8],
+    sheet: &[u8],
+    plausible_counts: &[u8],
+    feasible_counts: &[u8],
+    up: &[u8],
+    down: &[u8],
+    nodes: &[u8],
+    groups: &[u8],
+    out: &mut [u8],
+) -> usize {
     let mut n = [0u64; room::NODES];
     let mut g = [0u16; room::GROUPS];
     copy64(nodes, &mut n);
@@ -48,7 +64,17 @@ fn lend(book: &[u8], sheet: &[u8], plausible_counts: &[u8], feasible_counts: &[u
     )
 }
 
-fn show(book: &[u8], sheet: &[u8], plausible_counts: &[u8], feasible_counts: &[u8], up: &[u8], down: &[u8], nodes: &mut [u64], groups: &mut [u16], out: &mut [u8]) -> usize {
+fn show(
+    book: &[u8],
+    sheet: &[u8],
+    plausible_counts: &[u8],
+    feasible_counts: &[u8],
+    up: &[u8],
+    down: &[u8],
+    nodes: &mut [u64],
+    groups: &mut [u16],
+    out: &mut [u8],
+) -> usize {
     let answer = numbering::group_sheet(
         book,
         sheet,

@@ -93,3 +93,24 @@ pub fn copy64(s: &[u8], to: &mut [u64])
         i += 1;
     }
 }
+
+// The first elements of an array, as many as there is room for.
+pub fn first8(s: &mut [u8], n: usize) -> &mut [u8] {
+    let k = least(n, s.len());
+    &mut s[0..k]
+}
+
+pub fn first32(s: &mut [u32], n: usize) -> &mut [u32] {
+    let k = least(n, s.len());
+    &mut s[0..k]
+}
+
+pub fn first16(s: &mut [u16], n: usize) -> &mut [u16] {
+    let k = least(n, s.len());
+    &mut s[0..k]
+}
+
+pub fn first64(s: &mut [u64], n: usize) -> &mut [u64] {
+    let k = least(n, s.len());
+    &mut s[0..k]
+}

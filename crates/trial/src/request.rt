@@ -4,7 +4,8 @@ ghost use mathlib.Core.Path.{_≡_};
 ghost use mathlib.Core.Bool.{false};
 ghost use lib.ListN.{length, take, drop};
 ghost use Rattle.trial.specs.Requests.{Follows, Exactly, Ended};
-use crate::numbers::{four, least};
+use crate::numbers::four;
+use crate::numbers::least;
 
 // Where an argument stands. It is not whole where it, or one before it, is malformed or over its room.
 pub struct Part {
@@ -98,25 +99,4 @@ pub fn bytes(request: &[u8], p: Part) -> &[u8]
     let end = least(p.end, request.len());
     let from = least(p.from, end);
     &request[from..end]
-}
-
-// The first elements of an array, as many as were given.
-pub fn first8(s: &mut [u8], n: usize) -> &mut [u8] {
-    let k = least(n, s.len());
-    &mut s[0..k]
-}
-
-pub fn first32(s: &mut [u32], n: usize) -> &mut [u32] {
-    let k = least(n, s.len());
-    &mut s[0..k]
-}
-
-pub fn first16(s: &mut [u16], n: usize) -> &mut [u16] {
-    let k = least(n, s.len());
-    &mut s[0..k]
-}
-
-pub fn first64(s: &mut [u64], n: usize) -> &mut [u64] {
-    let k = least(n, s.len());
-    &mut s[0..k]
 }

@@ -17,4 +17,12 @@ pub const NODES: usize = 12500;
 pub const GROUPS: usize = 33000;
 
 // The longest request that fits: the sheet call, its byte, its eight arguments with four bytes of length for each.
-pub const REQUEST: usize = 1 + 8 * 4 + BOOK + SHEET + 2 * COUNTS + UP + DOWN + 8 * NODES + 2 * GROUPS;
+pub const REQUEST: usize = 1
+    + 8 * 4
+    + BOOK
+    + SHEET
+    + 2 * COUNTS
+    + UP
+    + DOWN
+    + 8 * NODES
+    + 2 * GROUPS;

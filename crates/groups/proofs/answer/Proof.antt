@@ -3,61 +3,43 @@ use Rattle.groups.proofs.Cutting.{within}
 use borrow.Author.Needs.{needs}
 use Rattle.groups.proofs.answer.Statement.{statement}
 use Rattle.groups.proofs.answer.Tie as tie
-use Rattle.groups.proofs.answer.Reads as reads
-use Rattle.groups.proofs.answer.Lts as lts
-use Rattle.groups.proofs.build.Reads as build-reads
-use Rattle.groups.proofs.input.cut.Reads as cut-reads
-use Rattle.groups.proofs.print.refused.Reads as refused-reads
 
--- src/main.rt:18:11
 cut-requires : tie.Need-cut-requires
 cut-requires c κs = search needs
 
--- src/main.rt:19:27
 enum-told : tie.Need-enum-told
 enum-told c = search needs
 
--- src/main.rt:19:27
 refused-requires : tie.Need-refused-requires
 refused-requires c κs = search needs
 
--- src/main.rt:20:24
 enum-known-end : tie.Need-enum-known-end
 enum-known-end c = search needs
 
--- src/main.rt:20:39
 sub-build : tie.Need-sub-build
 sub-build c = omega (arith, within (c .before .before .before .cut .ensures) (c .before .end .given .1))
 
--- src/main.rt:20:39
 part-build-start : tie.Need-part-build-start
 part-build-start c = omega (arith, within (c .before .before .before .cut .ensures) (c .before .end .given .1))
 
--- src/main.rt:20:39
 part-build-end : tie.Need-part-build-end
 part-build-end c = omega (arith, within (c .before .before .before .cut .ensures) (c .before .end .given .1))
 
--- src/main.rt:20:55
 sub-build-2 : tie.Need-sub-build-2
 sub-build-2 c = omega (arith, within (c .before .before .before .before .cut .ensures) (c .before .before .end .given .1))
 
--- src/main.rt:20:55
 part-build-start-2 : tie.Need-part-build-start-2
 part-build-start-2 c = omega (arith, within (c .before .before .before .before .cut .ensures) (c .before .before .end .given .1))
 
--- src/main.rt:20:55
 part-build-end-2 : tie.Need-part-build-end-2
 part-build-end-2 c = search needs
 
--- src/main.rt:20:33
 build-requires : tie.Need-build-requires
 build-requires c κs = search needs
 
--- src/main.rt:17:1
 returns : tie.Need-returns
 returns c = search needs
 
--- src/main.rt:17:1
 returns-2 : tie.Need-returns-2
 returns-2 c = search needs
 

@@ -5,51 +5,37 @@ use Rattle.groups.proofs.Cutting.{not-thirty}
 use borrow.Author.Needs.{needs}
 use Rattle.groups.proofs.input.cut.Statement.{statement}
 use Rattle.groups.proofs.input.cut.Tie as tie
-use Rattle.groups.proofs.input.cut.Reads as reads
-use Rattle.groups.proofs.input.cut.Lts as lts
-use Rattle.groups.proofs.input.wide.Reads as wide-reads
 
--- src/input.rt:25:9
 returns : tie.Need-returns
 returns c = refused (long (c .if1 .taken))
 
--- src/input.rt:28:9
 returns-2 : tie.Need-returns-2
 returns-2 c = refused (lengthless (c .if2 .taken))
 
--- src/input.rt:30:24
 shared-slice-read-wide : tie.Need-shared-slice-read-wide
 shared-slice-read-wide c = search needs
 
--- src/input.rt:30:19
 wide-requires : tie.Need-wide-requires
 wide-requires c κs = search needs
 
--- src/input.rt:30:15
 add-end : tie.Need-add-end
 add-end c = search needs
 
--- src/input.rt:30:47
 shared-slice-read-wide-2 : tie.Need-shared-slice-read-wide-2
 shared-slice-read-wide-2 c = search needs
 
--- src/input.rt:30:42
 wide-requires-2 : tie.Need-wide-requires-2
 wide-requires-2 c κs = search needs
 
--- src/input.rt:30:36
 mul-end : tie.Need-mul-end
 mul-end c = search needs
 
--- src/input.rt:30:15
 add-end-2 : tie.Need-add-end-2
 add-end-2 c = search needs
 
--- src/input.rt:32:9
 returns-3 : tie.Need-returns-3
 returns-3 c = refused (short (omega arith))
 
--- src/input.rt:21:1
 returns-4 : tie.Need-returns-4
 returns-4 c =
     sheet

@@ -4,12 +4,6 @@ use lib.ListN.{length}
 use borrow.Author.Needs.{needs}
 use Rattle.groups.proofs.print.lines.Statement.{statement}
 use Rattle.groups.proofs.print.lines.Tie as tie
-use Rattle.groups.proofs.print.lines.Reads as reads
-use Rattle.groups.proofs.print.lines.Lts as lts
-use Rattle.book.proofs.index.Reads as index-reads
-use Rattle.groups.proofs.print.group_end.Reads as group-end-reads
-use Rattle.groups.proofs.print.line.Reads as line-reads
-use Rattle.groups.proofs.print.settings.Reads as settings-reads
 
 abbrev Inv-loop : tie.InvT-loop
 Inv-loop out₀ held book sheet nodes groups places h₀ next₀ i₀ out h next i = (length out ≡ length out₀) × (i ≤ length sheet) × (next ≤ length groups)
@@ -17,67 +11,51 @@ Inv-loop out₀ held book sheet nodes groups places h₀ next₀ i₀ out h next
 abbrev μ-loop : tie.MeasureT-loop
 μ-loop out₀ held book sheet nodes groups places h₀ next₀ i₀ out h next i = length sheet - i
 
--- src/print.rt:46:18
 index-requires : tie.Need-index-requires Inv-loop μ-loop
 index-requires c κs = search needs
 
--- src/print.rt:50:5
 loop-holds : tie.Need-loop-holds Inv-loop μ-loop
 loop-holds c = search needs
 
--- src/print.rt:51:67
 shared-slice-read-settings : tie.Need-shared-slice-read-settings Inv-loop μ-loop
 shared-slice-read-settings c = search needs
 
--- src/print.rt:51:43
 settings-requires : tie.Need-settings-requires Inv-loop μ-loop
 settings-requires c κs = search needs
 
--- src/print.rt:51:13
 group-end-requires : tie.Need-group-end-requires Inv-loop μ-loop
 group-end-requires c κs = search needs
 
--- src/print.rt:52:29
 shared-slice-read-line : tie.Need-shared-slice-read-line Inv-loop μ-loop
 shared-slice-read-line c = search needs
 
--- src/print.rt:52:46
 mul-line : tie.Need-mul-line Inv-loop μ-loop
 mul-line c = search needs
 
--- src/print.rt:52:46
 sub-line : tie.Need-sub-line Inv-loop μ-loop
 sub-line c = search needs
 
--- src/print.rt:52:46
 part-line-start : tie.Need-part-line-start Inv-loop μ-loop
 part-line-start c = search needs
 
--- src/print.rt:52:46
 part-line-end : tie.Need-part-line-end Inv-loop μ-loop
 part-line-end c = search needs
 
--- src/print.rt:52:9
 line-requires : tie.Need-line-requires Inv-loop μ-loop
 line-requires c κs = search needs
 
--- src/print.rt:54:9
 add-i : tie.Need-add-i Inv-loop μ-loop
 add-i c = search needs
 
--- src/print.rt:50:5
 loop-less : tie.Need-loop-less Inv-loop μ-loop
 loop-less c = search needs
 
--- src/print.rt:50:5
 loop-again : tie.Need-loop-again Inv-loop μ-loop
 loop-again c = search needs
 
--- src/print.rt:45:1
 same-length : tie.Need-same-length Inv-loop μ-loop
 same-length c = search needs
 
--- src/print.rt:45:1
 returns : tie.Need-returns Inv-loop μ-loop
 returns c = search needs
 

@@ -4,9 +4,6 @@ use lib.ListN.{length}
 use borrow.Author.Needs.{needs}
 use Rattle.groups.proofs.print.numbers.Statement.{statement}
 use Rattle.groups.proofs.print.numbers.Tie as tie
-use Rattle.groups.proofs.print.numbers.Reads as reads
-use Rattle.groups.proofs.print.numbers.Lts as lts
-use Rattle.groups.proofs.print.group.Reads as group-reads
 
 abbrev Inv-loop : tie.InvT-loop
 Inv-loop out₀ held groups h₀ i₀ out h i = (length out ≡ length out₀) × (i ≤ length groups)
@@ -14,39 +11,30 @@ Inv-loop out₀ held groups h₀ i₀ out h i = (length out ≡ length out₀) �
 abbrev μ-loop : tie.MeasureT-loop
 μ-loop out₀ held groups h₀ i₀ out h i = length groups - i
 
--- src/print.rt:77:5
 loop-holds : tie.Need-loop-holds Inv-loop μ-loop
 loop-holds c = search needs
 
--- src/print.rt:78:27
 mul-group : tie.Need-mul-group Inv-loop μ-loop
 mul-group c = search needs
 
--- src/print.rt:78:27
 shared-slice-read-group : tie.Need-shared-slice-read-group Inv-loop μ-loop
 shared-slice-read-group c = search needs
 
--- src/print.rt:78:9
 group-requires : tie.Need-group-requires Inv-loop μ-loop
 group-requires c κs = search needs
 
--- src/print.rt:79:9
 add-i : tie.Need-add-i Inv-loop μ-loop
 add-i c = search needs
 
--- src/print.rt:77:5
 loop-less : tie.Need-loop-less Inv-loop μ-loop
 loop-less c = search needs
 
--- src/print.rt:77:5
 loop-again : tie.Need-loop-again Inv-loop μ-loop
 loop-again c = search needs
 
--- src/print.rt:74:1
 same-length : tie.Need-same-length Inv-loop μ-loop
 same-length c = search needs
 
--- src/print.rt:74:1
 returns : tie.Need-returns Inv-loop μ-loop
 returns c = search needs
 

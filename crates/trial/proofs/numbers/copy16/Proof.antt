@@ -6,10 +6,6 @@ use Rattle.trial.specs.Numbers.{two}
 use Rattle.trial.proofs.Copying.{Copying, started, stored, ended}
 use Rattle.trial.proofs.numbers.copy16.Statement.{statement}
 use Rattle.trial.proofs.numbers.copy16.Tie as tie
-use Rattle.trial.proofs.numbers.copy16.Reads as reads
-use Rattle.trial.proofs.numbers.copy16.Lts as lts
-use Rattle.trial.proofs.numbers.least.Reads as least-reads
-use Rattle.trial.proofs.numbers.two.Reads as two-reads
 
 abbrev Inv-loop : tie.InvT-loop
 Inv-loop s to₀ n i₀ to i = Copying two 2 s to₀ n to i
@@ -17,47 +13,36 @@ Inv-loop s to₀ n i₀ to i = Copying two 2 s to₀ n to i
 abbrev μ-loop : tie.MeasureT-loop
 μ-loop s to₀ n i₀ to i = n - i
 
--- src/numbers.rt:67:9
 least-requires : tie.Need-least-requires Inv-loop μ-loop
 least-requires c κs = search needs
 
--- src/numbers.rt:69:5
 loop-holds : tie.Need-loop-holds Inv-loop μ-loop
 loop-holds c = started _ _ _ _ _ (c .least .ensures) (div-mul-le-self _ _)
 
--- src/numbers.rt:70:24
 mul-two : tie.Need-mul-two Inv-loop μ-loop
 mul-two c = omega arith
 
--- src/numbers.rt:70:17
 two-requires : tie.Need-two-requires Inv-loop μ-loop
 two-requires c κs = omega arith
 
--- src/numbers.rt:70:9
 mul-to : tie.Need-mul-to Inv-loop μ-loop
 mul-to c = omega arith
 
--- src/numbers.rt:70:9
 slice-write-to : tie.Need-slice-write-to Inv-loop μ-loop
 slice-write-to c = omega arith
 
--- src/numbers.rt:71:9
 add-i : tie.Need-add-i Inv-loop μ-loop
 add-i c = omega arith
 
--- src/numbers.rt:69:5
 loop-less : tie.Need-loop-less Inv-loop μ-loop
 loop-less c = omega arith
 
--- src/numbers.rt:69:5
 loop-again : tie.Need-loop-again Inv-loop μ-loop
 loop-again c = stored (c .before .before .loop .inv) (omega arith) (c .two .ensures)
 
--- src/numbers.rt:64:1
 same-length : tie.Need-same-length Inv-loop μ-loop
 same-length c = c .before .loop .inv .long
 
--- src/numbers.rt:64:1
 returns : tie.Need-returns Inv-loop μ-loop
 returns c = ended (c .before .loop .inv) (omega arith) (c .before .before .least .ensures)
 

@@ -4,10 +4,6 @@ use lib.ListN.{length}
 use borrow.Author.Needs.{needs}
 use Rattle.trial.proofs.print.line16.Statement.{statement}
 use Rattle.trial.proofs.print.line16.Tie as tie
-use Rattle.trial.proofs.print.line16.Reads as reads
-use Rattle.trial.proofs.print.line16.Lts as lts
-use Rattle.trial.proofs.print.element16.Reads as element16-reads
-use Rattle.trial.proofs.print.line_end.Reads as line-end-reads
 
 abbrev Inv-loop : tie.InvT-loop
 Inv-loop out₀ held s h₀ i₀ out h i = (length out ≡ length out₀) × (i ≤ length s)
@@ -15,43 +11,33 @@ Inv-loop out₀ held s h₀ i₀ out h i = (length out ≡ length out₀) × (i 
 abbrev μ-loop : tie.MeasureT-loop
 μ-loop out₀ held s h₀ i₀ out h i = length s - i
 
--- src/print.rt:97:5
 loop-holds : tie.Need-loop-holds Inv-loop μ-loop
 loop-holds c = search needs
 
--- src/print.rt:98:34
 mul-element16 : tie.Need-mul-element16 Inv-loop μ-loop
 mul-element16 c = search needs
 
--- src/print.rt:98:34
 shared-slice-read-element16 : tie.Need-shared-slice-read-element16 Inv-loop μ-loop
 shared-slice-read-element16 c = search needs
 
--- src/print.rt:98:9
 element16-requires : tie.Need-element16-requires Inv-loop μ-loop
 element16-requires c κs = search needs
 
--- src/print.rt:99:9
 add-i : tie.Need-add-i Inv-loop μ-loop
 add-i c = search needs
 
--- src/print.rt:97:5
 loop-less : tie.Need-loop-less Inv-loop μ-loop
 loop-less c = search needs
 
--- src/print.rt:97:5
 loop-again : tie.Need-loop-again Inv-loop μ-loop
 loop-again c = search needs
 
--- src/print.rt:101:5
 line-end-requires : tie.Need-line-end-requires Inv-loop μ-loop
 line-end-requires c κs = search needs
 
--- src/print.rt:94:1
 same-length : tie.Need-same-length Inv-loop μ-loop
 same-length c = search needs
 
--- src/print.rt:94:1
 returns : tie.Need-returns Inv-loop μ-loop
 returns c = search needs
 

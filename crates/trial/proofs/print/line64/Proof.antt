@@ -4,10 +4,6 @@ use lib.ListN.{length}
 use borrow.Author.Needs.{needs}
 use Rattle.trial.proofs.print.line64.Statement.{statement}
 use Rattle.trial.proofs.print.line64.Tie as tie
-use Rattle.trial.proofs.print.line64.Reads as reads
-use Rattle.trial.proofs.print.line64.Lts as lts
-use Rattle.trial.proofs.print.element.Reads as element-reads
-use Rattle.trial.proofs.print.line_end.Reads as line-end-reads
 
 abbrev Inv-loop : tie.InvT-loop
 Inv-loop out₀ held s h₀ i₀ out h i = (length out ≡ length out₀) × (i ≤ length s)
@@ -15,43 +11,33 @@ Inv-loop out₀ held s h₀ i₀ out h i = (length out ≡ length out₀) × (i 
 abbrev μ-loop : tie.MeasureT-loop
 μ-loop out₀ held s h₀ i₀ out h i = length s - i
 
--- src/print.rt:117:5
 loop-holds : tie.Need-loop-holds Inv-loop μ-loop
 loop-holds c = search needs
 
--- src/print.rt:118:32
 mul-element : tie.Need-mul-element Inv-loop μ-loop
 mul-element c = search needs
 
--- src/print.rt:118:32
 shared-slice-read-element : tie.Need-shared-slice-read-element Inv-loop μ-loop
 shared-slice-read-element c = search needs
 
--- src/print.rt:118:9
 element-requires : tie.Need-element-requires Inv-loop μ-loop
 element-requires c κs = search needs
 
--- src/print.rt:119:9
 add-i : tie.Need-add-i Inv-loop μ-loop
 add-i c = search needs
 
--- src/print.rt:117:5
 loop-less : tie.Need-loop-less Inv-loop μ-loop
 loop-less c = search needs
 
--- src/print.rt:117:5
 loop-again : tie.Need-loop-again Inv-loop μ-loop
 loop-again c = search needs
 
--- src/print.rt:121:5
 line-end-requires : tie.Need-line-end-requires Inv-loop μ-loop
 line-end-requires c κs = search needs
 
--- src/print.rt:114:1
 same-length : tie.Need-same-length Inv-loop μ-loop
 same-length c = search needs
 
--- src/print.rt:114:1
 returns : tie.Need-returns Inv-loop μ-loop
 returns c = search needs
 

@@ -5,92 +5,67 @@ use Rattle.trial.proofs.Parsing.{after-none, no-length, cut-off, uneven
 use borrow.Author.Needs.{needs}
 use Rattle.trial.proofs.request.argument.Statement.{statement}
 use Rattle.trial.proofs.request.argument.Tie as tie
-use Rattle.trial.proofs.request.argument.Reads as reads
-use Rattle.trial.proofs.request.argument.Lts as lts
-use Rattle.trial.proofs.numbers.four.Reads as four-reads
-use Rattle.trial.proofs.request.broken.Reads as broken-reads
 
--- src/request.rt:42:9
 broken-requires : tie.Need-broken-requires
 broken-requires c κs = search needs
 
--- src/request.rt:42:9
 returns : tie.Need-returns
 returns c = after-none (c .broken .ensures) (not-true _ (c .before .if1 .taken))
 
--- src/request.rt:45:9
 broken-requires-2 : tie.Need-broken-requires-2
 broken-requires-2 c κs = search needs
 
--- src/request.rt:45:9
 returns-2 : tie.Need-returns-2
 returns-2 c = no-length (c .broken2 .ensures) (omega arith)
 
--- src/request.rt:47:8
 sub-if3 : tie.Need-sub-if3
 sub-if3 c = search needs
 
--- src/request.rt:48:9
 broken-requires-3 : tie.Need-broken-requires-3
 broken-requires-3 c κs = search needs
 
--- src/request.rt:48:9
 returns-3 : tie.Need-returns-3
 returns-3 c = no-length (c .broken3 .ensures) (omega arith)
 
--- src/request.rt:50:18
 four-requires : tie.Need-four-requires
 four-requires c κs = search needs
 
--- src/request.rt:50:18
 cast-length : tie.Need-cast-length
 cast-length c = search needs
 
--- src/request.rt:51:16
 add-from : tie.Need-add-from
 add-from c = search needs
 
--- src/request.rt:52:8
 sub-if4 : tie.Need-sub-if4
 sub-if4 c = search needs
 
--- src/request.rt:53:9
 broken-requires-4 : tie.Need-broken-requires-4
 broken-requires-4 c κs = search needs
 
--- src/request.rt:53:9
 returns-4 : tie.Need-returns-4
 returns-4 c = cut-off (c .before .before .four .ensures) (c .broken4 .ensures) (omega arith)
 
--- src/request.rt:55:8
 rem-if5 : tie.Need-rem-if5
 rem-if5 c = search needs
 
--- src/request.rt:56:9
 broken-requires-5 : tie.Need-broken-requires-5
 broken-requires-5 c κs = search needs
 
--- src/request.rt:56:9
 returns-5 : tie.Need-returns-5
 returns-5 c = uneven (c .before .before .before .four .ensures) (c .broken5 .ensures) (c .before .if5 .taken)
 
--- src/request.rt:58:15
 div-if6 : tie.Need-div-if6
 div-if6 c = search needs
 
--- src/request.rt:59:9
 broken-requires-6 : tie.Need-broken-requires-6
 broken-requires-6 c κs = search needs
 
--- src/request.rt:59:9
 returns-6 : tie.Need-returns-6
 returns-6 c = over (c .before .before .before .before .four .ensures) (c .broken6 .ensures) (c .before .before .before .before .before .before .before .before .before .before .pre) (c .before .if6 .taken)
 
--- src/request.rt:64:14
 add-t9 : tie.Need-add-t9
 add-t9 c = search needs
 
--- src/request.rt:36:1
 returns-7 : tie.Need-returns-7
 returns-7 c = found (c .before .before .before .four .ensures) (not-false _ (c .before .before .before .before .before .before .if1 .left)) refl refl refl (omega arith) (c .before .if5 .left) (c .if6 .left)
 

@@ -4,18 +4,13 @@ use borrow.Author.Tests.{not-true, not-false}
 use Rattle.trial.specs.Requests.{whole, not-so}
 use Rattle.trial.proofs.request.ends.Statement.{statement}
 use Rattle.trial.proofs.request.ends.Tie as tie
-use Rattle.trial.proofs.request.ends.Reads as reads
-use Rattle.trial.proofs.request.ends.Lts as lts
 
--- src/request.rt:86:9
 returns : tie.Need-returns
 returns c = not-so (λ w e. true≢false (sym w ∙ not-true _ (c .if1 .taken))) refl
 
--- src/request.rt:89:9
 returns-2 : tie.Need-returns-2
 returns-2 c = not-so (λ w e. c .if2 .taken e) refl
 
--- src/request.rt:82:1
 returns-3 : tie.Need-returns-3
 returns-3 c = whole (not-false _ (c .before .before .if1 .left)) (c .if2 .left) refl
 

@@ -4,27 +4,19 @@ use Rattle.trial.specs.Requests.{just, other}
 use borrow.Author.Needs.{needs}
 use Rattle.trial.proofs.request.exactly.Statement.{statement}
 use Rattle.trial.proofs.request.exactly.Tie as tie
-use Rattle.trial.proofs.request.exactly.Reads as reads
-use Rattle.trial.proofs.request.exactly.Lts as lts
-use Rattle.trial.proofs.request.broken.Reads as broken-reads
 
--- src/request.rt:73:9
 broken-requires : tie.Need-broken-requires
 broken-requires c κs = search needs
 
--- src/request.rt:73:9
 returns : tie.Need-returns
 returns c = other (λ e. omega arith) (c .broken .ensures)
 
--- src/request.rt:76:9
 broken-requires-2 : tie.Need-broken-requires-2
 broken-requires-2 c κs = search needs
 
--- src/request.rt:76:9
 returns-2 : tie.Need-returns-2
 returns-2 c = other (λ e. c .before .if2 .taken (omega arith)) (c .broken2 .ensures)
 
--- src/request.rt:69:1
 returns-3 : tie.Need-returns-3
 returns-3 c = just (omega arith) refl
 
