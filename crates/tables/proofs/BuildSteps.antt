@@ -1,10 +1,11 @@
 -- The build of an accepted book: from what its passes and its tables leave to what the whole does.
-use mathlib.Core.Path.{_≡_, sym, ap₂, _∙_, subst}
+use mathlib.Core.Path.{_≡_, sym, ap, ap₂, _∙_, subst}
 use mathlib.Core.Bool.{Bool, true, false}
 use mathlib.Core.List.{List, [], _∷_}
 use Prim.Native.Nat.{ℕ, _*_, _≤_, _<_}
 use native.Mathlib.Omega.{arith}
 use lib.ListN.{length}
+use Rattle.lists.specs.Pick.{pick}
 use Rattle.lists.specs.Refusals.{Said, accepted, refused}
 use Rattle.chains.specs.Limits.{max-members}
 use Rattle.chains.specs.Grammar.{Grammar}
@@ -15,16 +16,16 @@ use Rattle.book.specs.Reading.{Index}
 use Rattle.ranks.specs.Entries.{entry-bytes}
 use Rattle.tables.specs.Sets.{Holds}
 use Rattle.tables.specs.Entries.{UpTable, DownTable}
-use Rattle.tables.specs.Promise.{Lent, up-entries, down-entries, Written, wiped, BuildDue}
+use Rattle.tables.specs.Promise.{Lent, up-entries, down-entries, Written, zeros, wiped, BuildDue}
 use Rattle.tables.specs.Sweep.{Exact, Outcome}
 use Rattle.tables.specs.Shape.{Opened}
 use Rattle.tables.specs.declared.Built.{Built}
 use Rattle.tables.specs.declared.Built.the-variants.{Accepted, Refused}
 use Rattle.tables.specs.Answer.{said, lent}
-use Rattle.tables.specs.Making.{Ready, Settled, up-exceeds, down-exceeds, Tabled, Worked}
+use Rattle.tables.specs.Making.{Ready, Settled, up-exceeds, down-exceeds, Tabled, Worked, refuses}
 use Rattle.tables.proofs.Holds.{holds-fine}
 use Rattle.tables.proofs.Exits.{refuse-plausible, refuse-feasible, tables-worked}
-use Rattle.tables.proofs.Building.{wiped-same, refused-wiped}
+use Rattle.tables.proofs.Building.{lents, refused-wiped}
 
 -- ── the passes ──
 module _ {b : List ℕ} {m : Lent} (ready : Ready b m) where
@@ -84,14 +85,13 @@ module _ (G : Grammar) (s c f d up down up′ down′ : List ℕ) where
   }
 
 -- ── the whole ──
-module _ (b : List ℕ) (m m′ : Lent) (r : Built) (worked : Worked b m (said r) m′) where
-  pub built-accepted : (u w : ℕ) → r ≡ Accepted u w → BuildDue b m (said (Accepted u w)) m′
-  built-accepted u w e = let known : Worked b m (said (Accepted u w)) m′ = rw e at worked in known .due
+-- what is left of the lent memory, wiped or not
+pub left : (q : Bool) (s c f d u w s′ c′ f′ d′ u′ w′ : List ℕ) → s′ ≡ pick q (zeros s) s → c′ ≡ pick q (zeros c) c → f′ ≡ pick q (zeros f) f → d′ ≡ pick q (zeros d) d
+    → u′ ≡ pick q (zeros u) u → w′ ≡ pick q (zeros w) w → lent s′ c′ f′ d′ u′ w′ ≡ pick q (wiped (lent s c f d u w)) (lent s c f d u w)
+left true s c f d u w s′ c′ f′ d′ u′ w′ = lents s′ c′ f′ d′ u′ w′ (zeros s) (zeros c) (zeros f) (zeros d) (zeros u) (zeros w)
+left false s c f d u w s′ c′ f′ d′ u′ w′ = lents s′ c′ f′ d′ u′ w′ s c f d u w
 
-  pub built-refused : (m″ : Lent) (n p : ℕ) → r ≡ Refused n p → length (m′ .plausible) ≡ length (m .plausible)
-      → length (m′ .plausible-counts) ≡ length (m .plausible-counts) → length (m′ .feasible) ≡ length (m .feasible)
-      → length (m′ .feasible-counts) ≡ length (m .feasible-counts) → length (m′ .up) ≡ length (m .up) → length (m′ .down) ≡ length (m .down)
-      → m″ ≡ wiped m′ → BuildDue b m (said (Refused n p)) m″
-  built-refused m″ n p e l₁ l₂ l₃ l₄ l₅ l₆ z =
-      let known : Worked b m (said (Refused n p)) m′ = rw e at worked in
-      refused-wiped b m m′ m″ n p (known .due) (wiped-same m m′ l₁ l₂ l₃ l₄ l₅ l₆) z
+pub built : (b : List ℕ) (m m′ m″ : Lent) (r : Built) (q : Bool) → Worked b m (said r) m′ → q ≡ refuses (said r) → wiped m′ ≡ wiped m → m″ ≡ pick q (wiped m′) m′
+    → BuildDue b m (said r) m″
+built b m m′ m″ (Accepted u w) q k e z l = subst (λ x. BuildDue b m (said (Accepted u w)) x) (sym (l ∙ ap (λ t. pick t (wiped m′) m′) e)) (k .due)
+built b m m′ m″ (Refused n p) q k e z l = refused-wiped b m m′ m″ n p (k .due) z (l ∙ ap (λ t. pick t (wiped m′) m′) e)

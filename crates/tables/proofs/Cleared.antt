@@ -1,10 +1,12 @@
 -- A list whose first n places are cleared, place by place.
-use mathlib.Core.Path.{_≡_, ap, _∙_}
+use mathlib.Core.Path.{_≡_, refl, ap, _∙_}
+use mathlib.Core.Bool.{Bool, true, false}
 use mathlib.Core.List.{List, append-nil}
 use Prim.Native.Nat.{ℕ, _+_, _-_, _≤_, _<_}
 use native.Mathlib.Omega.{arith}
 use lib.ListN.{length, getD, drop, replicate, length-append, length-drop, length-replicate, getD-replicate, List·getD-append}
 use lib.Seq.{getD-append-add, getD-drop, drop-length}
+use Rattle.lists.specs.Pick.{pick}
 use Rattle.tables.specs.Promise.{zeros}
 use Rattle.tables.specs.Memory.{cleared}
 
@@ -24,3 +26,12 @@ module _ (n : ℕ) (s : List ℕ) where
 
 pub cleared-whole : (s : List ℕ) → cleared (length s) s ≡ zeros s
 cleared-whole s = rw (drop-length s) (append-nil (replicate (length s) 0))
+
+-- ── all places, or none ──
+pub extent-fits : (q : Bool) (k : ℕ) {n : ℕ} → n ≡ pick q k 0 → n ≤ k
+extent-fits true k e = omega arith
+extent-fits false k e = omega arith
+
+pub cleared-all : (q : Bool) (s : List ℕ) {n : ℕ} → n ≡ pick q (length s) 0 → cleared n s ≡ pick q (zeros s) s
+cleared-all true s e = ap (λ k. cleared k s) e ∙ cleared-whole s
+cleared-all false s e = ap (λ k. cleared k s) e ∙ refl

@@ -80,3 +80,8 @@ WorkDue b m (refused n p) m′ = First rows.turn (λ f. Applies b m (f .0) (f .1
 
 pub record Worked (b : List ℕ) (m : Lent) (a : Said) (m′ : Lent) : Type 0 where
   pub due : WorkDue b m a m′
+
+-- whether an answer is a refusal
+abbrev pub refuses : Said → Bool
+refuses (accepted counts) = false
+refuses (refused n p) = true

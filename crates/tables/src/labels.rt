@@ -43,10 +43,10 @@ fn recolour(s: &mut [u8; LABELS], a: u8, b: u8)
     requires { ⌜ length (now s) ≡ labels ⌝ }
     ensures { λ _. ⌜ now (s .exit) ≡ relabel a b (now (s .entry)) ⌝ }
 {
-    let mut o = 0;
-    while o < LABELS {
-        s[o] = swapped(s[o], a, b);
-        o += 1;
+    let mut holder = 0;
+    while holder < LABELS {
+        s[holder] = swapped(s[holder], a, b);
+        holder += 1;
     }
 }
 

@@ -2,12 +2,13 @@
 ghost use mathlib.Core.Path.{_≡_};
 ghost use Prim.Native.Nat.{_*_, _<_, _≤_};
 ghost use lib.ListN.{length};
+ghost use Rattle.lists.specs.Pick.{pick};
 ghost use Rattle.lists.specs.Refusals.{refused};
 ghost use Rattle.book.specs.Format.{grammar};
-ghost use Rattle.tables.specs.Promise.{wiped, BuildDue};
+ghost use Rattle.tables.specs.Promise.{zeros, BuildDue};
 ghost use Rattle.tables.specs.Answer.{said, lent};
 ghost use Rattle.tables.specs.Shape.{Opened};
-ghost use Rattle.tables.specs.Making.{Measured, Ready, Settled, Tabled, Worked};
+ghost use Rattle.tables.specs.Making.{Measured, Ready, Settled, Tabled, Worked, refuses};
 use super::Built;
 use super::downward::downward;
 use super::fill::fill_down;
@@ -55,8 +56,9 @@ pub fn too_short(n: usize, plausible: usize, counts: usize, feasible: usize, tal
     false
 }
 
-// All lent memory becomes zero throughout.
+// All lent memory becomes zero throughout, or nothing of it.
 fn wipe(
+    all: bool,
     plausible: &mut [u32],
     counts: &mut [u8],
     feasible: &mut [u32],
@@ -64,15 +66,19 @@ fn wipe(
     up: &mut [u8],
     down: &mut [u8],
 )
-    ensures { λ _. ⌜ lent (now (plausible .exit)) (now (counts .exit)) (now (feasible .exit)) (now (tally .exit)) (now (up .exit)) (now (down .exit))
-        ≡ wiped (lent (now (plausible .entry)) (now (counts .entry)) (now (feasible .entry)) (now (tally .entry)) (now (up .entry)) (now (down .entry))) ⌝ }
+    ensures { λ _. ⌜ (now (plausible .exit) ≡ pick all (zeros (now (plausible .entry))) (now (plausible .entry)))
+        × (now (counts .exit) ≡ pick all (zeros (now (counts .entry))) (now (counts .entry)))
+        × (now (feasible .exit) ≡ pick all (zeros (now (feasible .entry))) (now (feasible .entry)))
+        × (now (tally .exit) ≡ pick all (zeros (now (tally .entry))) (now (tally .entry)))
+        × (now (up .exit) ≡ pick all (zeros (now (up .entry))) (now (up .entry)))
+        × (now (down .exit) ≡ pick all (zeros (now (down .entry))) (now (down .entry))) ⌝ }
 {
-    wipe32(plausible);
-    wipe8(counts);
-    wipe32(feasible);
-    wipe8(tally);
-    wipe8(up);
-    wipe8(down);
+    wipe32(all, plausible);
+    wipe8(all, counts);
+    wipe32(all, feasible);
+    wipe8(all, tally);
+    wipe8(all, up);
+    wipe8(all, down);
 }
 
 // Both tables, over the sets as they stand; nothing is written unless both fit.
@@ -130,6 +136,19 @@ fn work(
     write_tables(book, &places, plausible, counts, feasible, tally, up, down)
 }
 
+// Whether an answer is a refusal.
+fn refuses(built: Built) -> bool
+    ensures { λ r. ⌜ r ≡ refuses (said built) ⌝ }
+{
+    match built {
+        Built::Accepted { up: _, down: _ } => false,
+        Built::Refused {
+            number: _,
+            place: _,
+        } => true,
+    }
+}
+
 // The same, with all memory wiped after a refusal.
 pub fn run(
     book: &[u8],
@@ -144,17 +163,7 @@ pub fn run(
     ensures { λ r. ⌜ BuildDue (now (book .entry)) (lent (now (plausible .entry)) (now (counts .entry)) (now (feasible .entry)) (now (tally .entry)) (now (up .entry)) (now (down .entry)))
         (said r) (lent (now (plausible .exit)) (now (counts .exit)) (now (feasible .exit)) (now (tally .exit)) (now (up .exit)) (now (down .exit))) ⌝ }
 {
-    match work(book, plausible, counts, feasible, tally, up, down) {
-        Built::Accepted {
-            up: ups,
-            down: downs,
-        } => Built::Accepted {
-            up: ups,
-            down: downs,
-        },
-        Built::Refused { number, place } => {
-            wipe(plausible, counts, feasible, tally, up, down);
-            Built::Refused { number, place }
-        }
-    }
+    let built = work(book, plausible, counts, feasible, tally, up, down);
+    wipe(refuses(built), plausible, counts, feasible, tally, up, down);
+    built
 }

@@ -4,6 +4,7 @@ ghost use mathlib.Core.List.{List·Memᴰ};
 ghost use Prim.Native.Nat.{_+_, _*_, _<_, _≤_};
 ghost use lib.ListN.{length, getD};
 ghost use Rattle.lists.specs.Part.{part, place};
+ghost use Rattle.lists.specs.Pick.{pick};
 ghost use Rattle.lists.specs.Rising.{Rising};
 ghost use Rattle.lists.specs.Inserted.{Inserted};
 ghost use Rattle.chains.specs.Limits.{max-members};
@@ -147,17 +148,24 @@ pub fn clear8(s: &mut [u8], n: usize)
     }
 }
 
-// The whole slice becomes zero.
-pub fn wipe32(s: &mut [u32])
-    ensures { λ _. ⌜ now (s .exit) ≡ zeros (now (s .entry)) ⌝ }
+// How many of n places to wipe: all of them, or none.
+fn extent(all: bool, n: usize) -> usize
+    ensures { λ r. ⌜ r ≡ pick all n 0 ⌝ }
 {
-    let n = s.len();
+    if all { n } else { 0 }
+}
+
+// The whole slice becomes zero, or nothing of it.
+pub fn wipe32(all: bool, s: &mut [u32])
+    ensures { λ _. ⌜ now (s .exit) ≡ pick all (zeros (now (s .entry))) (now (s .entry)) ⌝ }
+{
+    let n = extent(all, s.len());
     clear32(s, n);
 }
 
-pub fn wipe8(s: &mut [u8])
-    ensures { λ _. ⌜ now (s .exit) ≡ zeros (now (s .entry)) ⌝ }
+pub fn wipe8(all: bool, s: &mut [u8])
+    ensures { λ _. ⌜ now (s .exit) ≡ pick all (zeros (now (s .entry))) (now (s .entry)) ⌝ }
 {
-    let n = s.len();
+    let n = extent(all, s.len());
     clear8(s, n);
 }

@@ -28,8 +28,8 @@ swapped-requires c κs = search needs
 element-write-s : tie.Need-element-write-s Inv-loop μ-loop
 element-write-s c = search needs
 
-add-o : tie.Need-add-o Inv-loop μ-loop
-add-o c = search needs
+add-holder : tie.Need-add-holder Inv-loop μ-loop
+add-holder c = search needs
 
 loop-less : tie.Need-loop-less Inv-loop μ-loop
 loop-less c = search needs
@@ -38,13 +38,13 @@ loop-again : tie.Need-loop-again Inv-loop μ-loop
 loop-again c =
     let o = c .before .before .before in
     let s = o .before in
-    (omega arith, rw (c .swapped .ensures, o .loop .inv .1) (mapTo-more (swap (s .args .a) (s .args .b)) (o .loop .o) (s .args .s .now) (omega arith)))
+    (omega arith, rw (c .swapped .ensures, o .loop .inv .1) (mapTo-more (swap (s .args .a) (s .args .b)) (o .loop .holder) (s .args .s .now) (omega arith)))
 
 returns : tie.Need-returns Inv-loop μ-loop
 unfolding relabel
 returns c =
     let s = c .before .before in
-    rw (c .before .loop .inv .1) (mapTo-all (swap (s .args .a) (s .args .b)) (c .before .loop .o) (s .args .s .now) (omega arith))
+    rw (c .before .loop .inv .1) (mapTo-all (swap (s .args .a) (s .args .b)) (c .before .loop .holder) (s .args .s .now) (omega arith))
 
 pub recolour-spec : {M : Type 1} → statement M
 recolour-spec =
@@ -56,7 +56,7 @@ recolour-spec =
     element-copy-out-swapped
     swapped-requires
     element-write-s
-    add-o
+    add-holder
     loop-less
     loop-again
     returns)

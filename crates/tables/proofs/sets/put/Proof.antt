@@ -1,4 +1,5 @@
 -- Putting a member in meets its contract. Assumes nothing.
+use native.Mathlib.Omega.{arith}
 use borrow.Author.Needs.{needs}
 use Rattle.tables.proofs.Members.{put-old, put-full, put-new}
 use Rattle.tables.proofs.sets.put.Statement.{statement}
@@ -26,7 +27,7 @@ same-length-4 : tie.Need-same-length-4
 same-length-4 c = search needs
 
 returns-2 : tie.Need-returns-2
-returns-2 c = put-full (c .before .before .before .before .before .before .before .before .args .k) (c .before .before .before .before .count .ensures .0) (c .before .before .has .ensures) (c .before .if1 .left) (c .if2 .taken)
+returns-2 c = put-full (c .before .before .before .before .before .before .before .before .args .k) (c .before .before .before .before .count .ensures .0) (c .before .before .has .ensures) (c .before .if1 .left) (omega (arith, c .if2 .taken, c .before .before .before .before .count .ensures .0, c .before .before .before .before .before .before .before .before .pre .0 .few))
 
 mul-carry-in : tie.Need-mul-carry-in
 mul-carry-in c = search needs

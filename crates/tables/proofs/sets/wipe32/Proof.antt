@@ -1,18 +1,21 @@
--- A whole slice cleared: the contract is met. Assumes nothing.
+-- A whole slice cleared, or nothing of it: the contract is met. Assumes nothing.
 use mathlib.Core.Path.{_∙_}
 use borrow.Author.Needs.{needs}
-use Rattle.tables.proofs.Cleared.{cleared-whole}
+use Rattle.tables.proofs.Cleared.{extent-fits, cleared-all}
 use Rattle.tables.proofs.sets.wipe32.Statement.{statement}
 use Rattle.tables.proofs.sets.wipe32.Tie as tie
 
+extent-requires : tie.Need-extent-requires
+extent-requires c κs = search needs
+
 clear32-requires : tie.Need-clear32-requires
-clear32-requires c κs = search needs
+clear32-requires c κs = extent-fits (c .before .before .before .args .all) _ (c .before .extent .ensures)
 
 same-length : tie.Need-same-length
 same-length c = search needs
 
 returns : tie.Need-returns
-returns c = c .before .before .clear32 .ensures ∙ cleared-whole (c .before .before .before .before .before .args .s .now)
+returns c = c .before .before .clear32 .ensures ∙ cleared-all (c .before .before .before .before .before .before .args .all) (c .before .before .before .before .before .before .args .s .now) (c .before .before .before .before .extent .ensures)
 
 pub wipe32-spec : {M : Type 1} → statement M
-wipe32-spec = tie.close (tie.spec clear32-requires same-length returns)
+wipe32-spec = tie.close (tie.spec extent-requires clear32-requires same-length returns)
