@@ -20,6 +20,7 @@ pub mod Visiting
 pub mod Opening
 pub mod Planning
 pub mod Sweeping
+pub mod Rounds
 pub mod UpwardVisit
 pub mod UpwardSweep
 pub mod Shapes

@@ -5,6 +5,7 @@ pub mod Memory
 pub mod State
 pub mod Seen
 pub mod Visit
+pub mod Turns
 pub mod Sweep
 pub mod Upward
 pub mod Shape

@@ -20,6 +20,8 @@ use super::sets::clear8;
 use super::sets::clear32;
 use super::sets::copy_members;
 use super::sets::count;
+use super::turns::beyond;
+use super::turns::joined;
 use super::visit::LIST_PLACES;
 use super::visit::MARKS;
 use super::visit::looking_at;
@@ -204,30 +206,25 @@ fn sweep_down(
         (now (feasible .entry)) (now (tally .entry)) (now (feasible .exit)) (now (tally .exit)) r ⌝ }
 {
     let n = span(book::productions(book));
-    let mut added = false;
+    let mut turn = Turn::Still;
     let mut p = 0;
     while p < n {
-        match attend_down(
-            book,
-            places[p],
-            p,
-            marks,
-            plausible,
-            counts,
-            feasible,
-            tally,
-        ) {
-            Turn::Still => {}
-            Turn::Added => {
-                added = true;
-            }
-            Turn::Full => {
-                return Turn::Full;
-            }
-        }
-        p += 1;
+        turn = joined(
+            turn,
+            attend_down(
+                book,
+                places[p],
+                p,
+                marks,
+                plausible,
+                counts,
+                feasible,
+                tally,
+            ),
+        );
+        p = beyond(turn, p, n);
     }
-    if added { Turn::Added } else { Turn::Still }
+    turn
 }
 
 // Sweeps until one adds nothing; false where some set would be over-full.

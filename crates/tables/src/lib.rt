@@ -9,6 +9,7 @@ mod seen;
 mod sets;
 mod shape;
 mod totals;
+mod turns;
 mod upward;
 mod visit;
 mod widen;

@@ -17,6 +17,8 @@ use super::sets::MAX_MEMBERS;
 use super::sets::Turn;
 use super::sets::clear8;
 use super::sets::clear32;
+use super::turns::beyond;
+use super::turns::joined;
 use super::visit::LIST_PLACES;
 use super::visit::MARKS;
 use super::visit::looking_at;
@@ -117,21 +119,13 @@ fn sweep_up(
         (now (sets .entry)) (now (counts .entry)) (now (sets .exit)) (now (counts .exit)) r ⌝ }
 {
     let n = span(book::productions(book));
-    let mut added = false;
+    let mut turn = Turn::Still;
     let mut p = 0;
     while p < n {
-        match attend_up(book, places[p], p, marks, sets, counts) {
-            Turn::Still => {}
-            Turn::Added => {
-                added = true;
-            }
-            Turn::Full => {
-                return Turn::Full;
-            }
-        }
-        p += 1;
+        turn = joined(turn, attend_up(book, places[p], p, marks, sets, counts));
+        p = beyond(turn, p, n);
     }
-    if added { Turn::Added } else { Turn::Still }
+    turn
 }
 
 // Sweeps until one adds nothing; false where some set would be over-full.
