@@ -13,7 +13,8 @@ use Rattle.chains.proofs.Feasible.{ClosedDown, feasible-sound, feasible-complet
 use Rattle.book.specs.Format.{kinds, prods, start, grammar}
 use Rattle.book.proofs.Accepted.{Accepted}
 use Rattle.tables.specs.Sets.{Has}
-use Rattle.tables.specs.Memory.{Fine, Kept, Turned, cleared}
+use Rattle.tables.specs.Memory.{Fine, Kept, Turned}
+use Rattle.slices.specs.Slices.{cleared}
 use Rattle.tables.specs.Visit.{Gathered, OldOr}
 use Rattle.tables.specs.Sweep.{Since, total, Attended, Swept, Exact, Outcome}
 use Rattle.tables.specs.Downward.{down-step, down-into, down-watch, DownServed, DownMarks, DownSwept, DownClosed, Seeded}

@@ -12,9 +12,10 @@ use Rattle.lists.proofs.Rising.{pinned, rising-fewer}
 use Rattle.chains.specs.Limits.{max-members}
 use Rattle.tables.specs.Sets.{members, Has, member, Over, Holds}
 use Rattle.tables.specs.Promise.{Counted}
-use Rattle.tables.specs.Memory.{Placed, Fine, Kept, cleared}
+use Rattle.tables.specs.Memory.{Placed, Fine, Kept}
+use Rattle.slices.specs.Slices.{cleared}
 use Rattle.tables.proofs.Members.{members-long}
-use Rattle.tables.proofs.Cleared.{cleared-long, cleared-at, cleared-past}
+use Rattle.slices.proofs.Cleared.{cleared-long, cleared-at, cleared-past}
 
 -- ── from cleared memory to the sets ──
 module _ (n : ℕ) (s₀ c₀ : List ℕ) (there : n * max-members ≤ length s₀) (here : n ≤ length c₀) where

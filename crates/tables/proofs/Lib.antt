@@ -10,7 +10,6 @@ pub mod Choosing
 pub mod Gathering
 pub mod StateEntry
 pub mod Members
-pub mod Cleared
 pub mod Memory
 pub mod Holds
 pub mod Entries

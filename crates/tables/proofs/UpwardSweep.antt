@@ -15,7 +15,8 @@ use Rattle.book.specs.Format.{arity-at, entry, kinds, prods, grammar}
 use Rattle.book.specs.Reading.{kid-at}
 use Rattle.book.proofs.Accepted.{Accepted, arity-read, kid-read}
 use Rattle.tables.specs.Sets.{Has}
-use Rattle.tables.specs.Memory.{Fine, Kept, Turned, cleared}
+use Rattle.tables.specs.Memory.{Fine, Kept, Turned}
+use Rattle.slices.specs.Slices.{cleared}
 use Rattle.tables.specs.Visit.{Gathered, OldOr}
 use Rattle.tables.specs.Sweep.{total, Attended, Swept, Outcome}
 use Rattle.tables.specs.Upward.{up-step, up-into, up-watch, UpServed, UpMarks, UpSwept, UpClosed}

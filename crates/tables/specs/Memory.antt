@@ -50,10 +50,6 @@ pub record Put (k x : ℕ) (s c s′ c′ : List ℕ) (r : Turn) : Type 0 where
       ((s′ ≡ s) × (c′ ≡ c) × (getD c k 0 ≡ max-members) × (Has s c k x → ⊥))
 
 -- ── all kinds ──
--- the first n places are zero, the rest as they were
-abbrev pub cleared : ℕ → List ℕ → List ℕ
-cleared n s = replicate n 0 ++ drop n s
-
 -- the first n kinds have rising sets of what has P, zeros behind
 pub record Fine (n : ℕ) (P : ℕ → ℕ → Type 0) (s c : List ℕ) : Type 0 where
   pub there : n * max-members ≤ length s

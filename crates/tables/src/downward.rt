@@ -16,8 +16,6 @@ ghost use Rattle.tables.specs.Downward.{slot-down, given, DownVisited, D
 use super::gather::Visit;
 use super::sets::MAX_MEMBERS;
 use super::sets::Turn;
-use super::sets::clear8;
-use super::sets::clear32;
 use super::sets::copy_members;
 use super::sets::count;
 use super::turns::beyond;
@@ -284,8 +282,8 @@ pub fn downward(
         (now (feasible .entry)) (now (tally .entry)) (now (feasible .exit)) (now (tally .exit)) r ⌝ }
 {
     let n = span(book::kinds(book));
-    clear32(feasible, n * MAX_MEMBERS);
-    clear8(tally, n);
+    slices::clear32(feasible, n * MAX_MEMBERS);
+    slices::clear8(tally, n);
     seed(book, plausible, counts, feasible, tally);
     close_down(book, places, plausible, counts, feasible, tally)
 }

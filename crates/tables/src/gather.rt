@@ -9,6 +9,7 @@ ghost use Rattle.tables.specs.Memory.{Put};
 ghost use Rattle.tables.specs.Visit.{max-turns, Ready, Standing, InOrder, released, chosen, Request, Reply};
 use super::labels::LABELS;
 use super::labels::NONE;
+use super::labels::SLOTS;
 use super::labels::copy_state;
 use super::labels::forget;
 use super::labels::tidy;
@@ -20,9 +21,6 @@ use super::sets::MAX_MEMBERS;
 use super::sets::Turn;
 use super::sets::put;
 use super::widen::wide;
-
-// Slots of a production: the left kind and its children.
-pub const SLOTS: usize = 1 + book::limits::MAX_CHILDREN as usize;
 
 // A visit of a production: the slots whose codes are chosen, in turn, the last one first, each with its number of settings and of codes; and the
 // slot that the results are seen on, with its number of settings and its kind.

@@ -14,20 +14,17 @@ ghost use Rattle.chains.specs.State.{code-pairs, dropped, code-on};
 ghost use Rattle.book.specs.Search.{Tells};
 ghost use Rattle.ranks.specs.Entries.{labels, none};
 ghost use Rattle.tables.specs.State.{Low, State, Whole, Readable, width-in, own, apart, based, Numbered, Renumbered, tidied};
+use super::widen::wide;
 
-// Occurrence numbers to a slot, and to a production: slot 0 and a slot for each child.
+// Occurrence numbers to a slot; slots of a production, the left kind and its children; and its occurrence numbers.
 pub const SETTINGS: usize = book::limits::MAX_SETTINGS as usize;
 
-pub const LABELS: usize = (1 + book::limits::MAX_CHILDREN as usize) * SETTINGS;
+pub const SLOTS: usize = 1 + book::limits::MAX_CHILDREN as usize;
+
+pub const LABELS: usize = SLOTS * SETTINGS;
 
 // No label.
-pub const NONE: u8 = 255;
-
-fn wide(x: u8) -> usize
-    ensures { λ r. ⌜ (r ≡ x) × (r < 256) ⌝ }
-{
-    x as usize
-}
+pub const NONE: u8 = ranks::NONE;
 
 // ---- joining
 

@@ -2,10 +2,9 @@
 ghost use mathlib.Core.Path.{_≡_};
 ghost use Prim.Native.Nat.{_*_, _<_, _≤_};
 ghost use lib.ListN.{length};
-ghost use Rattle.lists.specs.Pick.{pick};
 ghost use Rattle.lists.specs.Refusals.{refused};
 ghost use Rattle.book.specs.Format.{grammar};
-ghost use Rattle.tables.specs.Promise.{zeros, BuildDue};
+ghost use Rattle.tables.specs.Promise.{BuildDue};
 ghost use Rattle.tables.specs.Answer.{said, lent};
 ghost use Rattle.tables.specs.Shape.{Opened};
 ghost use Rattle.tables.specs.Making.{Measured, Ready, Settled, Tabled, Worked, refuses};
@@ -14,20 +13,13 @@ use super::downward::downward;
 use super::fill::fill_down;
 use super::fill::fill_up;
 use super::sets::MAX_MEMBERS;
-use super::sets::wipe8;
-use super::sets::wipe32;
 use super::totals::total_down;
 use super::totals::total_up;
 use super::upward::upward;
+use super::widen::long;
 
 // Bytes of a down entry.
-const ENTRY: u64 = 44;
-
-fn long(x: usize) -> u64
-    ensures { λ r. ⌜ r ≡ x ⌝ }
-{
-    x as u64
-}
+const ENTRY: u64 = ranks::ENTRY as u64;
 
 // A refusal that names no place.
 pub fn refused(number: u8) -> Built
@@ -54,31 +46,6 @@ pub fn too_short(n: usize, plausible: usize, counts: usize, feasible: usize, tal
         return true;
     }
     false
-}
-
-// All lent memory becomes zero throughout, or nothing of it.
-fn wipe(
-    all: bool,
-    plausible: &mut [u32],
-    counts: &mut [u8],
-    feasible: &mut [u32],
-    tally: &mut [u8],
-    up: &mut [u8],
-    down: &mut [u8],
-)
-    ensures { λ _. ⌜ (now (plausible .exit) ≡ pick all (zeros (now (plausible .entry))) (now (plausible .entry)))
-        × (now (counts .exit) ≡ pick all (zeros (now (counts .entry))) (now (counts .entry)))
-        × (now (feasible .exit) ≡ pick all (zeros (now (feasible .entry))) (now (feasible .entry)))
-        × (now (tally .exit) ≡ pick all (zeros (now (tally .entry))) (now (tally .entry)))
-        × (now (up .exit) ≡ pick all (zeros (now (up .entry))) (now (up .entry)))
-        × (now (down .exit) ≡ pick all (zeros (now (down .entry))) (now (down .entry))) ⌝ }
-{
-    wipe32(all, plausible);
-    wipe8(all, counts);
-    wipe32(all, feasible);
-    wipe8(all, tally);
-    wipe8(all, up);
-    wipe8(all, down);
 }
 
 // Both tables, over the sets as they stand; nothing is written unless both fit.
@@ -164,6 +131,6 @@ pub fn run(
         (said r) (lent (now (plausible .exit)) (now (counts .exit)) (now (feasible .exit)) (now (tally .exit)) (now (up .exit)) (now (down .exit))) ⌝ }
 {
     let built = work(book, plausible, counts, feasible, tally, up, down);
-    wipe(refuses(built), plausible, counts, feasible, tally, up, down);
+    slices::wipe(refuses(built), plausible, counts, feasible, tally, up, down);
     built
 }

@@ -4,13 +4,12 @@ ghost use mathlib.Core.List.{List·Memᴰ};
 ghost use Prim.Native.Nat.{_+_, _*_, _<_, _≤_};
 ghost use lib.ListN.{length, getD};
 ghost use Rattle.lists.specs.Part.{part, place};
-ghost use Rattle.lists.specs.Pick.{pick};
 ghost use Rattle.lists.specs.Rising.{Rising};
-ghost use Rattle.lists.specs.Inserted.{Inserted};
 ghost use Rattle.chains.specs.Limits.{max-members};
 ghost use Rattle.tables.specs.Sets.{members, member};
-ghost use Rattle.tables.specs.Promise.{zeros};
-ghost use Rattle.tables.specs.Memory.{Placed, Search, Seen, Put, cleared};
+ghost use Rattle.tables.specs.Memory.{Placed, Search, Seen, Put};
+use super::widen::narrow;
+use super::widen::wide;
 
 pub const MAX_MEMBERS: usize = 64;
 
@@ -19,19 +18,6 @@ pub enum Turn {
     Still,
     Added,
     Full,
-}
-
-fn wide(x: u8) -> usize
-    ensures { λ r. ⌜ (r ≡ x) × (r < 256) ⌝ }
-{
-    x as usize
-}
-
-fn narrow(x: usize) -> u8
-    requires { ⌜ x < 256 ⌝ }
-    ensures { λ r. ⌜ r ≡ x ⌝ }
-{
-    x as u8
 }
 
 // The number of members of the kind k.
@@ -73,28 +59,6 @@ pub fn rank(sets: &[u32], k: usize, n: usize, x: u32) -> usize
     find(sets, k * MAX_MEMBERS, n, x)
 }
 
-// Carries x up to its place, and from there on each member by one place. The answer says whether there is one more.
-fn carry_in(sets: &mut [u32], base: usize, n: usize, x: u32) -> bool
-    requires { ⌜ base + n < length (now sets) ⌝ }
-    ensures { λ r. ⌜ Inserted base n x (now (sets .entry)) (now (sets .exit)) r ⌝ }
-{
-    let mut carry = x;
-    let mut i = 0;
-    while i < n {
-        let y = sets[base + i];
-        if carry == y {
-            return false;
-        }
-        if carry < y {
-            sets[base + i] = carry;
-            carry = y;
-        }
-        i += 1;
-    }
-    sets[base + n] = carry;
-    true
-}
-
 // x put into the set of the kind k, if it is new and there is room for it.
 pub fn put(sets: &mut [u32], counts: &mut [u8], k: usize, x: u32) -> Turn
     requires { ⌜ Placed (now sets) (now counts) k × Rising (members (now sets) (now counts) k) ⌝ }
@@ -107,7 +71,7 @@ pub fn put(sets: &mut [u32], counts: &mut [u8], k: usize, x: u32) -> Turn
     if n == MAX_MEMBERS {
         return Turn::Full;
     }
-    carry_in(sets, k * MAX_MEMBERS, n, x);
+    slices::insert(sets, k * MAX_MEMBERS, n, x);
     counts[k] = narrow(n + 1);
     Turn::Added
 }
@@ -123,49 +87,4 @@ pub fn copy_members(sets: &[u32], k: usize, n: usize, list: &mut [u32], from: us
         list[from + i] = sets[base + i];
         i += 1;
     }
-}
-
-// The first n places become zero.
-pub fn clear32(s: &mut [u32], n: usize)
-    requires { ⌜ n ≤ length (now s) ⌝ }
-    ensures { λ _. ⌜ now (s .exit) ≡ cleared n (now (s .entry)) ⌝ }
-{
-    let mut i = 0;
-    while i < n {
-        s[i] = 0;
-        i += 1;
-    }
-}
-
-pub fn clear8(s: &mut [u8], n: usize)
-    requires { ⌜ n ≤ length (now s) ⌝ }
-    ensures { λ _. ⌜ now (s .exit) ≡ cleared n (now (s .entry)) ⌝ }
-{
-    let mut i = 0;
-    while i < n {
-        s[i] = 0;
-        i += 1;
-    }
-}
-
-// How many of n places to wipe: all of them, or none.
-fn extent(all: bool, n: usize) -> usize
-    ensures { λ r. ⌜ r ≡ pick all n 0 ⌝ }
-{
-    if all { n } else { 0 }
-}
-
-// The whole slice becomes zero, or nothing of it.
-pub fn wipe32(all: bool, s: &mut [u32])
-    ensures { λ _. ⌜ now (s .exit) ≡ pick all (zeros (now (s .entry))) (now (s .entry)) ⌝ }
-{
-    let n = extent(all, s.len());
-    clear32(s, n);
-}
-
-pub fn wipe8(all: bool, s: &mut [u8])
-    ensures { λ _. ⌜ now (s .exit) ≡ pick all (zeros (now (s .entry))) (now (s .entry)) ⌝ }
-{
-    let n = extent(all, s.len());
-    clear8(s, n);
 }

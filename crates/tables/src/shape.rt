@@ -3,27 +3,13 @@
 ghost use mathlib.Core.Path.{_≡_};
 ghost use Prim.Native.Nat.{_<_};
 ghost use Rattle.tables.specs.Shape.{ShapeAt};
+use super::labels::SLOTS;
 use super::labels::width;
-
-// Slots of a production: the left kind and its children.
-pub const SLOTS: usize = 1 + book::limits::MAX_CHILDREN as usize;
 
 pub struct Shape {
     pub arity: u8,
     pub kinds: [u8; SLOTS],
     pub widths: [u8; SLOTS],
-}
-
-pub fn wide(x: u8) -> usize
-    ensures { λ r. ⌜ (r ≡ x) × (r < 256) ⌝ }
-{
-    x as usize
-}
-
-pub fn span(x: u16) -> usize
-    ensures { λ r. ⌜ (r ≡ x) × (r < 65536) ⌝ }
-{
-    x as usize
 }
 
 // The shape of the production whose entry stands at `at`.

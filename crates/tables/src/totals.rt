@@ -9,21 +9,16 @@ ghost use Rattle.tables.specs.Promise.{up-entries, down-entries};
 ghost use Rattle.tables.specs.Shape.{Opened, Small, Countable, kinds-from};
 use super::shape::Shape;
 use super::shape::shape_of;
-use super::shape::span;
-use super::shape::wide;
-
-fn long(x: u8) -> u64
-    ensures { λ r. ⌜ (r ≡ x) × (r < 256) ⌝ }
-{
-    x as u64
-}
+use super::widen::far;
+use super::widen::span;
+use super::widen::wide;
 
 // The number of members of a kind.
 fn count(counts: &[u8], kind: usize) -> u64
     requires { ⌜ kind < length (now counts) ⌝ }
     ensures { λ r. ⌜ (r ≡ getD (now (counts .entry)) kind 0) × (r < 256) ⌝ }
 {
-    long(counts[kind])
+    far(counts[kind])
 }
 
 // The number of choices of a member for each child.

@@ -15,8 +15,6 @@ ghost use Rattle.tables.specs.Upward.{UpVisited, UpServed, UpMarks, UpSw
 use super::gather::Visit;
 use super::sets::MAX_MEMBERS;
 use super::sets::Turn;
-use super::sets::clear8;
-use super::sets::clear32;
 use super::turns::beyond;
 use super::turns::joined;
 use super::visit::LIST_PLACES;
@@ -156,7 +154,7 @@ pub fn upward(book: &[u8], places: &[usize], sets: &mut [u32], counts: &mut [u8]
         (now (sets .entry)) (now (counts .entry)) (now (sets .exit)) (now (counts .exit)) r ⌝ }
 {
     let n = span(book::kinds(book));
-    clear32(sets, n * MAX_MEMBERS);
-    clear8(counts, n);
+    slices::clear32(sets, n * MAX_MEMBERS);
+    slices::clear8(counts, n);
     close_up(book, places, sets, counts)
 }

@@ -4,7 +4,8 @@ use Prim.Native.Nat.{ℕ, _*_}
 use Rattle.chains.specs.Limits.{max-members}
 use Rattle.book.specs.Format.{kinds}
 use Rattle.book.proofs.Accepted.{told-kinds, told-start}
-use Rattle.tables.specs.Memory.{cleared}
+use Rattle.slices.specs.Slices.{cleared}
+use Rattle.slices.proofs.Cleared.{clears}
 use Rattle.tables.proofs.Memory.{fine-placed}
 use Rattle.tables.proofs.DownwardSweep.{down-begun, down-outcome}
 use native.Mathlib.Omega.{arith}
@@ -22,16 +23,10 @@ mul-clear32 : tie.Need-mul-clear32
 mul-clear32 c = search needs
 
 clear32-requires : tie.Need-clear32-requires
-clear32-requires c κs =
-    let (a, x, ex, there, here) = c .before .before .before .before .before .before .before .before .before .pre in
-    let n : c .before .span .result ≡ kinds (c .before .before .before .before .before .before .before .before .before .args .book .now) = c .before .span .ensures .0 ∙ c .before .before .kinds .ensures ∙ told-kinds a in
-    omega arith
+clear32-requires c κs = search needs
 
 clear8-requires : tie.Need-clear8-requires
-clear8-requires c κs =
-    let (a, x, ex, there, here) = c .before .before .before .before .before .before .before .before .before .before .before .before .before .pre in
-    let n : c .before .before .before .before .before .span .result ≡ kinds (c .before .before .before .before .before .before .before .before .before .before .before .before .before .args .book .now) = c .before .before .before .before .before .span .ensures .0 ∙ c .before .before .before .before .before .before .kinds .ensures ∙ told-kinds a in
-    omega arith
+clear8-requires c κs = search needs
 
 seed-requires : tie.Need-seed-requires
 seed-requires c κs =
@@ -43,8 +38,8 @@ close-down-requires : tie.Need-close-down-requires
 close-down-requires c κs =
     let (a, x, ex, there, here) = c .before .before .before .before .before .before .before .before .before .before .before .before .before .before .before .before .before .before .before .before .before .before .before .before .before .pre in
     let n : c .before .before .before .before .before .before .before .before .before .before .before .before .before .before .before .before .before .span .result ≡ kinds (c .before .before .before .before .before .before .before .before .before .before .before .before .before .before .before .before .before .before .before .before .before .before .before .before .before .args .book .now) = c .before .before .before .before .before .before .before .before .before .before .before .before .before .before .before .before .before .span .ensures .0 ∙ c .before .before .before .before .before .before .before .before .before .before .before .before .before .before .before .before .before .before .kinds .ensures ∙ told-kinds a in
-    let e = c .before .before .before .before .before .before .before .before .before .before .before .before .before .before .before .clear32 .ensures ∙ ap (λ (k : ℕ). cleared (k * max-members) (c .before .before .before .before .before .before .before .before .before .before .before .before .before .before .before .before .before .before .before .before .before .before .before .before .before .args .feasible .now)) n in
-    let f = c .before .before .before .before .before .before .before .before .before .before .before .clear8 .ensures ∙ ap (λ (k : ℕ). cleared k (c .before .before .before .before .before .before .before .before .before .before .before .before .before .before .before .before .before .before .before .before .before .before .before .before .before .args .tally .now)) n in
+    let e = clears (c .before .before .before .before .before .before .before .before .before .before .before .before .before .before .before .before .before .span .result * max-members) (c .before .before .before .before .before .before .before .before .before .before .before .before .before .before .before .before .before .before .before .before .before .before .before .before .before .args .feasible .now) (omega arith) (c .before .before .before .before .before .before .before .before .before .before .before .before .before .before .before .clear32 .ensures) ∙ ap (λ (k : ℕ). cleared (k * max-members) (c .before .before .before .before .before .before .before .before .before .before .before .before .before .before .before .before .before .before .before .before .before .before .before .before .before .args .feasible .now)) n in
+    let f = clears (c .before .before .before .before .before .before .before .before .before .before .before .before .before .before .before .before .before .span .result) (c .before .before .before .before .before .before .before .before .before .before .before .before .before .before .before .before .before .before .before .before .before .before .before .before .before .args .tally .now) (omega arith) (c .before .before .before .before .before .before .before .before .before .before .before .clear8 .ensures) ∙ ap (λ (k : ℕ). cleared k (c .before .before .before .before .before .before .before .before .before .before .before .before .before .before .before .before .before .before .before .before .before .before .before .before .before .args .tally .now)) n in
     let o = rw (told-start a, e, f) at (c .before .before .before .before .before .before .seed .ensures) in
     (a, x, ex .fine, down-begun a (c .before .before .before .before .before .before .before .before .before .before .before .before .before .before .before .before .before .before .before .before .before .before .before .before .before .args .feasible .now) (c .before .before .before .before .before .before .before .before .before .before .before .before .before .before .before .before .before .before .before .before .before .before .before .before .before .args .tally .now) there here ex o)
 
@@ -58,8 +53,8 @@ returns : tie.Need-returns
 returns c =
     let (a, x, ex, there, here) = c .before .before .before .before .before .before .before .before .before .before .before .before .before .before .before .before .before .before .before .before .before .before .before .before .before .before .before .before .before .before .pre in
     let n : c .before .before .before .before .before .before .before .before .before .before .before .before .before .before .before .before .before .before .before .before .before .before .span .result ≡ kinds (c .before .before .before .before .before .before .before .before .before .before .before .before .before .before .before .before .before .before .before .before .before .before .before .before .before .before .before .before .before .before .args .book .now) = c .before .before .before .before .before .before .before .before .before .before .before .before .before .before .before .before .before .before .before .before .before .before .span .ensures .0 ∙ c .before .before .before .before .before .before .before .before .before .before .before .before .before .before .before .before .before .before .before .before .before .before .before .kinds .ensures ∙ told-kinds a in
-    let e = c .before .before .before .before .before .before .before .before .before .before .before .before .before .before .before .before .before .before .before .before .clear32 .ensures ∙ ap (λ (k : ℕ). cleared (k * max-members) (c .before .before .before .before .before .before .before .before .before .before .before .before .before .before .before .before .before .before .before .before .before .before .before .before .before .before .before .before .before .before .args .feasible .now)) n in
-    let f = c .before .before .before .before .before .before .before .before .before .before .before .before .before .before .before .before .clear8 .ensures ∙ ap (λ (k : ℕ). cleared k (c .before .before .before .before .before .before .before .before .before .before .before .before .before .before .before .before .before .before .before .before .before .before .before .before .before .before .before .before .before .before .args .tally .now)) n in
+    let e = clears (c .before .before .before .before .before .before .before .before .before .before .before .before .before .before .before .before .before .before .before .before .before .before .span .result * max-members) (c .before .before .before .before .before .before .before .before .before .before .before .before .before .before .before .before .before .before .before .before .before .before .before .before .before .before .before .before .before .before .args .feasible .now) (omega arith) (c .before .before .before .before .before .before .before .before .before .before .before .before .before .before .before .before .before .before .before .before .clear32 .ensures) ∙ ap (λ (k : ℕ). cleared (k * max-members) (c .before .before .before .before .before .before .before .before .before .before .before .before .before .before .before .before .before .before .before .before .before .before .before .before .before .before .before .before .before .before .args .feasible .now)) n in
+    let f = clears (c .before .before .before .before .before .before .before .before .before .before .before .before .before .before .before .before .before .before .before .before .before .before .span .result) (c .before .before .before .before .before .before .before .before .before .before .before .before .before .before .before .before .before .before .before .before .before .before .before .before .before .before .before .before .before .before .args .tally .now) (omega arith) (c .before .before .before .before .before .before .before .before .before .before .before .before .before .before .before .before .clear8 .ensures) ∙ ap (λ (k : ℕ). cleared k (c .before .before .before .before .before .before .before .before .before .before .before .before .before .before .before .before .before .before .before .before .before .before .before .before .before .before .before .before .before .before .args .tally .now)) n in
     let o = rw (told-start a, e, f) at (c .before .before .before .before .before .before .before .before .before .before .before .seed .ensures) in
     down-outcome a (c .before .before .before .before .before .before .before .before .before .before .before .before .before .before .before .before .before .before .before .before .before .before .before .before .before .before .before .before .before .before .args .feasible .now) (c .before .before .before .before .before .before .before .before .before .before .before .before .before .before .before .before .before .before .before .before .before .before .before .before .before .before .before .before .before .before .args .tally .now) there here ex o (c .before .before .before .before .close-down .ensures)
 

@@ -7,7 +7,7 @@ use Rattle.tables.proofs.making.write_tables.Tie as tie
 use Rattle.tables.proofs.making.write_tables.Reads as reads
 use Rattle.tables.proofs.making.write_tables.Lts as lts
 use Rattle.tables.proofs.fill.fill_up.Reads as fill-up-reads
-use Rattle.tables.proofs.making.long.Reads as long-reads
+use Rattle.tables.proofs.widen.long.Reads as long-reads
 use Rattle.tables.proofs.making.refused.Reads as refused-reads
 use Rattle.tables.proofs.fill.fill_down.Reads as fill-down-reads
 use Rattle.tables.proofs.totals.total_down.Reads as total-down-reads

@@ -29,11 +29,11 @@ same-length-4 c = search needs
 returns-2 : tie.Need-returns-2
 returns-2 c = put-full (c .before .before .before .before .before .before .before .before .args .k) (c .before .before .before .before .count .ensures .0) (c .before .before .has .ensures) (c .before .if1 .left) (omega (arith, c .if2 .taken, c .before .before .before .before .count .ensures .0, c .before .before .before .before .before .before .before .before .pre .0 .few))
 
-mul-carry-in : tie.Need-mul-carry-in
-mul-carry-in c = search needs
+mul-insert : tie.Need-mul-insert
+mul-insert c = search needs
 
-carry-in-requires : tie.Need-carry-in-requires
-carry-in-requires c κs = search needs
+insert-requires : tie.Need-insert-requires
+insert-requires c κs = search needs
 
 add-narrow : tie.Need-add-narrow
 add-narrow c = search needs
@@ -53,7 +53,7 @@ same-length-6 c = search needs
 returns-3 : tie.Need-returns-3
 returns-3 c =
     let s = c .before .before .before .before .before .before .before .before .before .before .before .before .before in
-    put-new (s .args .k) (c .before .before .before .before .before .before .before .before .before .count .ensures .0) (c .before .before .before .before .before .before .before .has .ensures) (s .pre .0) (c .before .before .before .before .before .before .if1 .left) (c .before .before .before .before .before .if2 .left) (c .before .before .before .carry-in .ensures) (c .narrow .ensures)
+    put-new (s .args .k) (c .before .before .before .before .before .before .before .before .before .count .ensures .0) (c .before .before .before .before .before .before .before .has .ensures) (s .pre .0) (c .before .before .before .before .before .before .if1 .left) (c .before .before .before .before .before .if2 .left) (c .before .before .before .insert .ensures .room (omega (arith, c .before .before .before .before .before .if2 .left, c .before .before .before .before .before .before .before .before .before .count .ensures .0, s .pre .0 .few, s .pre .0 .there))) (c .narrow .ensures)
 
 pub put-spec : {M : Type 1} → statement M
 put-spec =
@@ -67,8 +67,8 @@ put-spec =
     same-length-3
     same-length-4
     returns-2
-    mul-carry-in
-    carry-in-requires
+    mul-insert
+    insert-requires
     add-narrow
     narrow-requires
     slice-write-counts

@@ -5,7 +5,8 @@ use Rattle.chains.specs.Limits.{max-members}
 use Rattle.chains.specs.Plausible.{Plausible}
 use Rattle.book.specs.Format.{kinds, grammar}
 use Rattle.book.proofs.Accepted.{told-kinds}
-use Rattle.tables.specs.Memory.{cleared}
+use Rattle.slices.specs.Slices.{cleared}
+use Rattle.slices.proofs.Cleared.{clears}
 use Rattle.tables.proofs.Holds.{cleared-fine}
 use Rattle.tables.proofs.UpwardSweep.{up-outcome}
 use native.Mathlib.Omega.{arith}
@@ -23,23 +24,17 @@ mul-clear32 : tie.Need-mul-clear32
 mul-clear32 c = search needs
 
 clear32-requires : tie.Need-clear32-requires
-clear32-requires c κs =
-    let (a, x, there, here) = c .before .before .before .before .before .before .before .pre in
-    let n : c .before .span .result ≡ kinds (c .before .before .before .before .before .before .before .args .book .now) = c .before .span .ensures .0 ∙ c .before .before .kinds .ensures ∙ told-kinds a in
-    omega arith
+clear32-requires c κs = search needs
 
 clear8-requires : tie.Need-clear8-requires
-clear8-requires c κs =
-    let (a, x, there, here) = c .before .before .before .before .before .before .before .before .before .before .before .pre in
-    let n : c .before .before .before .before .before .span .result ≡ kinds (c .before .before .before .before .before .before .before .before .before .before .before .args .book .now) = c .before .before .before .before .before .span .ensures .0 ∙ c .before .before .before .before .before .before .kinds .ensures ∙ told-kinds a in
-    omega arith
+clear8-requires c κs = search needs
 
 close-up-requires : tie.Need-close-up-requires
 close-up-requires c κs =
     let (a, x, there, here) = c .before .before .before .before .before .before .before .before .before .before .before .before .before .before .before .before .pre in
     let n : c .before .before .before .before .before .before .before .before .before .before .span .result ≡ kinds (c .before .before .before .before .before .before .before .before .before .before .before .before .before .before .before .before .args .book .now) = c .before .before .before .before .before .before .before .before .before .before .span .ensures .0 ∙ c .before .before .before .before .before .before .before .before .before .before .before .kinds .ensures ∙ told-kinds a in
-    let e = c .before .before .before .before .before .before .before .before .clear32 .ensures ∙ ap (λ (k : ℕ). cleared (k * max-members) (c .before .before .before .before .before .before .before .before .before .before .before .before .before .before .before .before .args .sets .now)) n in
-    let f = c .before .before .before .before .clear8 .ensures ∙ ap (λ (k : ℕ). cleared k (c .before .before .before .before .before .before .before .before .before .before .before .before .before .before .before .before .args .counts .now)) n in
+    let e = clears (c .before .before .before .before .before .before .before .before .before .before .span .result * max-members) (c .before .before .before .before .before .before .before .before .before .before .before .before .before .before .before .before .args .sets .now) (omega arith) (c .before .before .before .before .before .before .before .before .clear32 .ensures) ∙ ap (λ (k : ℕ). cleared (k * max-members) (c .before .before .before .before .before .before .before .before .before .before .before .before .before .before .before .before .args .sets .now)) n in
+    let f = clears (c .before .before .before .before .before .before .before .before .before .before .span .result) (c .before .before .before .before .before .before .before .before .before .before .before .before .before .before .before .before .args .counts .now) (omega arith) (c .before .before .before .before .clear8 .ensures) ∙ ap (λ (k : ℕ). cleared k (c .before .before .before .before .before .before .before .before .before .before .before .before .before .before .before .before .args .counts .now)) n in
     (a, x, rw (e, f) (cleared-fine (kinds (c .before .before .before .before .before .before .before .before .before .before .before .before .before .before .before .before .args .book .now)) (c .before .before .before .before .before .before .before .before .before .before .before .before .before .before .before .before .args .sets .now) (c .before .before .before .before .before .before .before .before .before .before .before .before .before .before .before .before .args .counts .now) there here (Plausible (grammar (c .before .before .before .before .before .before .before .before .before .before .before .before .before .before .before .before .args .book .now)))))
 
 same-length : tie.Need-same-length
@@ -52,8 +47,8 @@ returns : tie.Need-returns
 returns c =
     let (a, x, there, here) = c .before .before .before .before .before .before .before .before .before .before .before .before .before .before .before .before .before .before .before .before .before .pre in
     let n : c .before .before .before .before .before .before .before .before .before .before .before .before .before .before .before .span .result ≡ kinds (c .before .before .before .before .before .before .before .before .before .before .before .before .before .before .before .before .before .before .before .before .before .args .book .now) = c .before .before .before .before .before .before .before .before .before .before .before .before .before .before .before .span .ensures .0 ∙ c .before .before .before .before .before .before .before .before .before .before .before .before .before .before .before .before .kinds .ensures ∙ told-kinds a in
-    let e = c .before .before .before .before .before .before .before .before .before .before .before .before .before .clear32 .ensures ∙ ap (λ (k : ℕ). cleared (k * max-members) (c .before .before .before .before .before .before .before .before .before .before .before .before .before .before .before .before .before .before .before .before .before .args .sets .now)) n in
-    let f = c .before .before .before .before .before .before .before .before .before .clear8 .ensures ∙ ap (λ (k : ℕ). cleared k (c .before .before .before .before .before .before .before .before .before .before .before .before .before .before .before .before .before .before .before .before .before .args .counts .now)) n in
+    let e = clears (c .before .before .before .before .before .before .before .before .before .before .before .before .before .before .before .span .result * max-members) (c .before .before .before .before .before .before .before .before .before .before .before .before .before .before .before .before .before .before .before .before .before .args .sets .now) (omega arith) (c .before .before .before .before .before .before .before .before .before .before .before .before .before .clear32 .ensures) ∙ ap (λ (k : ℕ). cleared (k * max-members) (c .before .before .before .before .before .before .before .before .before .before .before .before .before .before .before .before .before .before .before .before .before .args .sets .now)) n in
+    let f = clears (c .before .before .before .before .before .before .before .before .before .before .before .before .before .before .before .span .result) (c .before .before .before .before .before .before .before .before .before .before .before .before .before .before .before .before .before .before .before .before .before .args .counts .now) (omega arith) (c .before .before .before .before .before .before .before .before .before .clear8 .ensures) ∙ ap (λ (k : ℕ). cleared k (c .before .before .before .before .before .before .before .before .before .before .before .before .before .before .before .before .before .before .before .before .before .args .counts .now)) n in
     up-outcome a there here (rw (e, f) at (c .before .before .before .before .close-up .ensures))
 
 pub upward-spec : {M : Type 1} → statement M

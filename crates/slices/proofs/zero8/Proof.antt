@@ -2,8 +2,8 @@
 use Prim.Native.Nat.{_-_}
 use native.Mathlib.Omega.{arith}
 use Rattle.lists.proofs.Filled.{Filling, fill-begun, fill-turn, fill-done}
-use Rattle.tables.proofs.sets.clear8.Statement.{statement}
-use Rattle.tables.proofs.sets.clear8.Tie as tie
+use Rattle.slices.proofs.zero8.Statement.{statement}
+use Rattle.slices.proofs.zero8.Tie as tie
 
 abbrev Inv-loop : tie.InvT-loop
 Inv-loop s₀ n i₀ s i = Filling s₀ n 0 s i
@@ -32,8 +32,8 @@ same-length c = c .before .loop .inv .long
 returns : tie.Need-returns Inv-loop μ-loop
 returns c = fill-done (c .before .loop .inv) (c .loop-test .left)
 
-pub clear8-spec : {M : Type 1} → statement M
-clear8-spec =
+pub zero8-spec : {M : Type 1} → statement M
+zero8-spec =
     tie.close
     (tie.spec
     Inv-loop

@@ -3,8 +3,8 @@ use Prim.Native.Nat.{_-_}
 use native.Mathlib.Omega.{arith}
 use borrow.Author.Needs.{needs, scaled-fits}
 use Rattle.lists.proofs.Filled.{Filling, fill-begun, fill-turn, fill-done}
-use Rattle.tables.proofs.sets.clear32.Statement.{statement}
-use Rattle.tables.proofs.sets.clear32.Tie as tie
+use Rattle.slices.proofs.zero32.Statement.{statement}
+use Rattle.slices.proofs.zero32.Tie as tie
 
 abbrev Inv-loop : tie.InvT-loop
 Inv-loop s₀ n i₀ s i = Filling s₀ n 0 s i
@@ -36,8 +36,8 @@ same-length c = c .before .loop .inv .long
 returns : tie.Need-returns Inv-loop μ-loop
 returns c = fill-done (c .before .loop .inv) (c .loop-test .left)
 
-pub clear32-spec : {M : Type 1} → statement M
-clear32-spec =
+pub zero32-spec : {M : Type 1} → statement M
+zero32-spec =
     tie.close
     (tie.spec
     Inv-loop

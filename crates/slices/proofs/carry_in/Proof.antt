@@ -6,17 +6,17 @@ use native.Mathlib.Omega.{arith}
 use borrow.Author.Needs.{needs, scaled-fits}
 use lib.ListN.{length, length-set}
 use Rattle.lists.proofs.Carry.{Carrying, begun, swapped, passed, found, ended}
-use Rattle.tables.proofs.sets.carry_in.Statement.{statement}
-use Rattle.tables.proofs.sets.carry_in.Tie as tie
+use Rattle.slices.proofs.carry_in.Statement.{statement}
+use Rattle.slices.proofs.carry_in.Tie as tie
 
 less-of : (a b : ℕ) → a ≤ b → (b ≡ a → ⊥) → a < b
 less-of a b h n = search needs
 
 abbrev Inv-loop : tie.InvT-loop
-Inv-loop sets₀ base n x carry₀ i₀ sets carry i = Carrying sets₀ base n x sets carry i
+Inv-loop s₀ base n x carry₀ i₀ s carry i = Carrying s₀ base n x s carry i
 
 abbrev μ-loop : tie.MeasureT-loop
-μ-loop sets₀ base n x carry₀ i₀ sets carry i = n - i
+μ-loop s₀ base n x carry₀ i₀ s carry i = n - i
 
 loop-holds : tie.Need-loop-holds Inv-loop μ-loop
 loop-holds c = begun _ _ _ _ (c .pre)
@@ -25,7 +25,7 @@ add-y : tie.Need-add-y Inv-loop μ-loop
 add-y c = omega arith
 
 mul-y : tie.Need-mul-y Inv-loop μ-loop
-mul-y c = scaled-fits _ (length (c .before .before .args .sets .now)) 4 (omega arith) (c .before .before .good .0 .1)
+mul-y c = scaled-fits _ (length (c .before .before .args .s .now)) 4 (omega arith) (c .before .before .good .0 .1)
 
 slice-read-y : tie.Need-slice-read-y Inv-loop μ-loop
 slice-read-y c = omega arith
@@ -36,14 +36,14 @@ same-length c = c .before .before .before .loop .inv .size
 returns : tie.Need-returns Inv-loop μ-loop
 returns c = found (c .before .before .before .loop .inv) _ (c .before .before .loop-test .taken) refl (c .if1 .taken)
 
-add-sets : tie.Need-add-sets Inv-loop μ-loop
-add-sets c = omega arith
+add-s : tie.Need-add-s Inv-loop μ-loop
+add-s c = omega arith
 
-mul-sets : tie.Need-mul-sets Inv-loop μ-loop
-mul-sets c = scaled-fits _ (length (c .before .before .before .before .before .args .sets .now)) 4 (omega arith) (c .before .before .before .before .before .good .0 .1)
+mul-s : tie.Need-mul-s Inv-loop μ-loop
+mul-s c = scaled-fits _ (length (c .before .before .before .before .before .args .s .now)) 4 (omega arith) (c .before .before .before .before .before .good .0 .1)
 
-slice-write-sets : tie.Need-slice-write-sets Inv-loop μ-loop
-slice-write-sets c = omega arith
+slice-write-s : tie.Need-slice-write-s Inv-loop μ-loop
+slice-write-s c = omega arith
 
 add-i : tie.Need-add-i Inv-loop μ-loop
 add-i c = omega arith
@@ -58,14 +58,14 @@ loop-again c =
     (λ w. rw (w .1, w .2) (passed (c .before .before .before .before .loop .inv) _ (c .before .before .before .loop-test .taken) refl (less-of _ _ (w .0 .left) (c .before .if1 .left))))
     (c .if2 .came)
 
-add-sets-2 : tie.Need-add-sets-2 Inv-loop μ-loop
-add-sets-2 c = omega arith
+add-s-2 : tie.Need-add-s-2 Inv-loop μ-loop
+add-s-2 c = omega arith
 
-mul-sets-2 : tie.Need-mul-sets-2 Inv-loop μ-loop
-mul-sets-2 c = scaled-fits _ (length (c .before .before .args .sets .now)) 4 (omega arith) (c .before .before .good .0 .1)
+mul-s-2 : tie.Need-mul-s-2 Inv-loop μ-loop
+mul-s-2 c = scaled-fits _ (length (c .before .before .args .s .now)) 4 (omega arith) (c .before .before .good .0 .1)
 
-slice-write-sets-2 : tie.Need-slice-write-sets-2 Inv-loop μ-loop
-slice-write-sets-2 c = omega arith
+slice-write-s-2 : tie.Need-slice-write-s-2 Inv-loop μ-loop
+slice-write-s-2 c = omega arith
 
 same-length-2 : tie.Need-same-length-2 Inv-loop μ-loop
 same-length-2 c = simp length-set (c .before .loop .inv .size)
@@ -85,14 +85,14 @@ carry-in-spec =
     slice-read-y
     same-length
     returns
-    add-sets
-    mul-sets
-    slice-write-sets
+    add-s
+    mul-s
+    slice-write-s
     add-i
     loop-less
     loop-again
-    add-sets-2
-    mul-sets-2
-    slice-write-sets-2
+    add-s-2
+    mul-s-2
+    slice-write-s-2
     same-length-2
     returns-2)

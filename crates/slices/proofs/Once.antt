@@ -1,0 +1,33 @@
+-- What each call leaves is one.
+use mathlib.Core.Path.{_≡_, refl, sym, _∙_}
+use mathlib.Core.Bool.{Bool, true, false}
+use mathlib.Core.List.{List}
+use Prim.Native.Nat.{ℕ, _+_, _<_}
+use native.Mathlib.Decide.{decLt}
+use native.Mathlib.Omega.{arith}
+use lib.ListN.{length}
+use Rattle.lists.specs.Inserted.{one}
+use Rattle.slices.specs.Slices.{Cleared, Wiped, Taken}
+
+one-once : (n : ℕ) (r r′ : Bool) → n + one r ≡ n + one r′ → r ≡ r′
+one-once n true true e = refl
+one-once n true false e = absurd (omega arith)
+one-once n false true e = absurd (omega arith)
+one-once n false false e = refl
+
+-- THEOREM: two outcomes of an insertion are the same, answer and slice
+pub insert-once : (base n x : ℕ) (s s₁ s₂ : List ℕ) (r₁ r₂ : Bool) → Taken base n x s s₁ r₁ → Taken base n x s s₂ r₂ → (r₁ ≡ r₂) × (s₁ ≡ s₂)
+insert-once base n x s s₁ s₂ r₁ r₂ a b = go (decLt (base + n) (length s))
+  where
+    go : Dec (base + n < length s) → (r₁ ≡ r₂) × (s₁ ≡ s₂)
+    go (yes h) = (one-once n r₁ r₂ (sym (a .room h .more) ∙ b .room h .more), a .room h .held ∙ sym (b .room h .held))
+    go (no h) =
+        let (e, z) = a .none (omega arith) in
+        let (e′, z′) = b .none (omega arith) in
+        (z ∙ sym z′, e ∙ sym e′)
+
+pub clear-once : (n : ℕ) (s s₁ s₂ : List ℕ) → Cleared n s s₁ → Cleared n s s₂ → s₁ ≡ s₂
+clear-once n s s₁ s₂ a b = a ∙ sym b
+
+pub wipe-once : (all : Bool) (s s₁ s₂ : List ℕ) → Wiped all s s₁ → Wiped all s s₂ → s₁ ≡ s₂
+wipe-once all s s₁ s₂ a b = a ∙ sym b
