@@ -60,10 +60,10 @@ fn zero8(s: &mut [u8], n: usize)
     requires { ⌜ n ≤ length (now s) ⌝ }
     ensures { λ _. ⌜ now (s .exit) ≡ cleared n (now (s .entry)) ⌝ }
 {
-    let mut i = 0;
-    while i < n {
-        s[i] = 0;
-        i += 1;
+    let mut place = 0;
+    while place < n {
+        s[place] = 0;
+        place += 1;
     }
 }
 

@@ -17,8 +17,8 @@ loop-holds c = fill-begun _ _ _ (c .pre)
 slice-write-s : tie.Need-slice-write-s Inv-loop μ-loop
 slice-write-s c = omega arith
 
-add-i : tie.Need-add-i Inv-loop μ-loop
-add-i c = omega arith
+add-place : tie.Need-add-place Inv-loop μ-loop
+add-place c = omega arith
 
 loop-less : tie.Need-loop-less Inv-loop μ-loop
 loop-less c = omega arith
@@ -40,7 +40,7 @@ zero8-spec =
     μ-loop
     loop-holds
     slice-write-s
-    add-i
+    add-place
     loop-less
     loop-again
     same-length
