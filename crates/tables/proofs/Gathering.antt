@@ -1,7 +1,6 @@
 -- Gathering: the loop over a turn's codes, and the ways out of a call.
 use mathlib.Core.Path.{_≡_, refl, sym, ap, _∙_, subst}
 use mathlib.Core.Logic.{inl, inr, _↔_, ⊎-elim}
-use mathlib.Core.Bool.{Bool, true, false}
 use mathlib.Core.List.{List}
 use Prim.Native.Nat.{ℕ, suc, _+_, _-_, _≤_, _<_}
 use native.Mathlib.Omega.{arith}
@@ -10,12 +9,14 @@ use Rattle.chains.specs.State.{code-on}
 use Rattle.ranks.specs.Entries.{labels}
 use Rattle.tables.specs.Sets.{Has, Over}
 use Rattle.tables.specs.Memory.{Put, Fine, Kept, Turned}
-use Rattle.tables.specs.Seen.{Found, remembered, Stored}
+use Rattle.tables.specs.Seen.{seen-bytes, Found, remembered, Stored}
+use Rattle.tables.specs.Turns.{joined, beyond}
 use Rattle.tables.specs.Visit.{size-of, code-of, chosen, Yields, Gathered, OldOr, Gathers, Done, Request, Reply}
 use Rattle.tables.specs.declared.sets.Turn.{Turn}
 use Rattle.tables.specs.declared.sets.Turn.the-variants.{Still, Added, Full}
 use Rattle.tables.specs.declared.gather.Visit.{Visit}
-use Rattle.tables.proofs.Memory.{kept-refl, put-turned, turned-map, Going, set-out, on-still, on-added, on-full, end-added, end-still}
+use Rattle.tables.proofs.Memory.{kept-refl, put-turned, turned-map}
+use Rattle.tables.proofs.Rounds.{turned-done, Round, round-begun, goes-on, round-next, round-done, joined-full}
 use Rattle.tables.proofs.StatesSeen.{found-has, stored-map, remember-stored}
 use Rattle.tables.proofs.Choosing.{ready-less, chosen-standing}
 
@@ -58,7 +59,7 @@ module _ (v : Visit) (l : List ℕ) where
   unfolding Yields
   reply-none {u} {kept} {s} {c} {s′} {c′} {r} q p = record {
     turned = turns;
-    seen = let o = q .order in done-stays (o .below) (turns (o .kinds) (o .below) (o .fine) .kept) (q .seen);
+    seen = λ z. let o = q .order in done-stays (o .below) (turns (o .kinds) (o .below) (o .fine) .kept) (q .seen);
   }
     where
       turns : (n : ℕ) → v .kind < n → Fine n (Has s c) s c
@@ -74,7 +75,7 @@ module _ (v : Visit) (l : List ℕ) where
         kept = kept-refl n s c;
         case = (refl, refl, found-has (q .seen) (omega (arith, q .ready .few)) e);
       };
-      seen = q .seen;
+      seen = λ z. q .seen;
     }
 
     -- ---- the loop over the codes of turn j
@@ -82,42 +83,44 @@ module _ (v : Visit) (l : List ℕ) where
     abbrev pub ChoiceIn : List ℕ → List ℕ → ℕ → Type 0
     ChoiceIn s c i = Gathered (v .kind) (Yields v l j (chosen v j (code-of l j i) u)) s c
 
-    pub record Looping (s₀ c₀ kept s c : List ℕ) (added : Bool) (i : ℕ) : Type 0 where
-      pub going : (n : ℕ) → v .kind < n → Fine n (Has s₀ c₀) s₀ c₀ → Going n (OldOr s₀ c₀ (v .kind) (Yields v l (suc j) u)) ChoiceIn s₀ c₀ s c added i
-      pub seen : Stored (Done v l s c) kept
+    pub record Looping (end : ℕ) (s₀ c₀ kept s c : List ℕ) (t : Turn) (i : ℕ) : Type 0 where
+      pub round : (n : ℕ) → v .kind < n → Fine n (Has s₀ c₀) s₀ c₀ → Round n (OldOr s₀ c₀ (v .kind) (Yields v l (suc j) u)) ChoiceIn end s₀ c₀ s c t i
+      pub seen : (t ≡ Full → ⊥) → Stored (Done v l s c) kept
+      pub long : length kept ≡ seen-bytes
 
     -- the loop's work array is as long as a state
-    abbrev pub Turning : (s₀ c₀ kept s c w : List ℕ) (added : Bool) (i : ℕ) → Type 0
-    Turning s₀ c₀ kept s c w added i = Looping s₀ c₀ kept s c added i × (length w ≡ labels)
+    abbrev pub Turning : (end : ℕ) (s₀ c₀ kept s c w : List ℕ) (t : Turn) (i : ℕ) → Type 0
+    Turning end s₀ c₀ kept s c w t i = Looping end s₀ c₀ kept s c t i × (length w ≡ labels)
 
-    pub loop-begun : {kept s c : List ℕ} → Request v l (suc j) u kept s c → Looping s c kept s c false 0
-    loop-begun {kept} {s} {c} q = record {
-      going = λ n h f. set-out n (OldOr s c (v .kind) (Yields v l (suc j) u)) ChoiceIn s c (fine-widen (λ k x b m. inl m) f);
-      seen = q .seen;
+    pub loop-begun : (end : ℕ) {kept s c : List ℕ} → Request v l (suc j) u kept s c → Looping end s c kept s c Still 0
+    loop-begun end {kept} {s} {c} q = record {
+      round = λ n h f. round-begun ChoiceIn end (fine-widen (λ k x b m. inl m) f);
+      seen = λ z. q .seen;
+      long = q .seen .long;
     }
 
-    module _ {s₀ c₀ kept₀ kept s c : List ℕ} {added : Bool} {i : ℕ} (q : Request v l (suc j) u kept₀ s₀ c₀) (h : Looping s₀ c₀ kept s c added i) where
-      now-going : Going (q .order .kinds) (OldOr s₀ c₀ (v .kind) (Yields v l (suc j) u)) ChoiceIn s₀ c₀ s c added i
-      now-going = h .going (q .order .kinds) (q .order .below) (q .order .fine)
+    module _ {end : ℕ} {s₀ c₀ kept₀ kept s c : List ℕ} {t : Turn} {i : ℕ} (q : Request v l (suc j) u kept₀ s₀ c₀) (h : Looping end s₀ c₀ kept s c t i) where
+      now-round : Round (q .order .kinds) (OldOr s₀ c₀ (v .kind) (Yields v l (suc j) u)) ChoiceIn end s₀ c₀ s c t i
+      now-round = h .round (q .order .kinds) (q .order .below) (q .order .fine)
 
       -- no slice has another length
       pub loop-long : length s ≡ length s₀
-      loop-long = now-going .kept .long
+      loop-long = now-round .turned .kept .long
 
       pub loop-long-c : length c ≡ length c₀
-      loop-long-c = now-going .kept .long-c
+      loop-long-c = now-round .turned .kept .long-c
 
       pub loop-long-seen : length kept ≡ length kept₀
-      loop-long-seen = h .seen .long ∙ sym (q .seen .long)
+      loop-long-seen = h .long ∙ sym (q .seen .long)
 
       module _ {w : List ℕ} (e : w ≡ chosen v j (code-of l j i) u) where
-        pub loop-request : Request v l j w kept s c
-        loop-request = record {
+        pub loop-request : i < end → Request v l j w kept s c
+        loop-request b = record {
           ready = ready-less (q .ready);
           standing = rw e (chosen-standing (q .ready) (q .standing) (code-of l j i));
           lists = q .lists;
-          order = record { kinds = q .order .kinds; below = q .order .below; fine = fine-own (now-going .fine) };
-          seen = h .seen;
+          order = record { kinds = q .order .kinds; below = q .order .below; fine = fine-own (now-round .turned .fine) };
+          seen = h .seen (goes-on now-round b);
         }
 
         pub loop-state : length w ≡ labels
@@ -131,36 +134,26 @@ module _ (v : Visit) (l : List ℕ) where
           turn : (n : ℕ) → v .kind < n → Fine n (Has s₀ c₀) s₀ c₀
               → Turned n (OldOr s₀ c₀ (v .kind) (Yields v l (suc j) u)) (ChoiceIn s′ c′ i) s c s′ c′ r
           turn n b f =
-              let g = h .going n b f in
+              let g = h .round n b f .turned in
               turned-map r (λ d x y. d x (subst (λ w. Yields v l j w x) (sym e) y))
               (turned-widen (λ k x m o. ⊎-elim (g .fine .only k x m) (λ (a, y). inr (a, came x y)) o) r (p .turned n b (fine-own (g .fine))))
 
-          pub loop-still : r ≡ Still → Looping s₀ c₀ kept′ s′ c′ added (i + 1)
-          loop-still z = record { going = λ n b f. on-still (h .going n b f) (turn n b f) z; seen = p .seen }
-
-          pub loop-added : r ≡ Added → Looping s₀ c₀ kept′ s′ c′ true (i + 1)
-          loop-added z = record { going = λ n b f. on-added (h .going n b f) (turn n b f) (λ s c s′ c′ i k d. gathered-stays b k d) z; seen = p .seen }
-
-          pub loop-full : r ≡ Full → Reply v l (suc j) u s₀ c₀ kept′ s′ c′ Full
-          loop-full z = record { turned = λ n b f. on-full (h .going n b f) (turn n b f) (Gathered (v .kind) (Yields v l (suc j) u) s′ c′) z; seen = p .seen }
+          pub loop-next : {t′ : Turn} {i′ : ℕ} → i < end → length kept′ ≡ length kept → t′ ≡ joined t r → i′ ≡ beyond t′ i end → Looping end s₀ c₀ kept′ s′ c′ t′ i′
+          loop-next b same z z′ = record {
+            round = λ n m f. round-next (h .round n m f) b (λ s c s′ c′ i k d. gathered-stays m k d) (turn n m f) z z′;
+            seen = λ y. p .seen (λ x. y (z ∙ joined-full t r x));
+            long = same ∙ h .long;
+          }
 
       module _ (past : size-of v j ≤ i) where
         all-in : ((k : ℕ) → k < i → ChoiceIn s c k) → Gathered (v .kind) (Yields v l (suc j) u) s c
         unfolding Yields
         all-in d x (k, b, y) = d k (omega arith) x y
 
-        pub loop-remembered : Stored (Done v l s c) (remembered kept (suc j) u)
-        loop-remembered =
-            remember-stored (h .seen) (suc j) (omega (arith, q .ready .few)) u (q .standing .state .long) (all-in (now-going .done))
+        loop-remembered : (t ≡ Full → ⊥) → Stored (Done v l s c) (remembered kept (suc j) u)
+        loop-remembered z =
+            remember-stored (h .seen z) (suc j) (omega (arith, q .ready .few)) u (q .standing .state .long) (all-in (turned-done t z (now-round .turned)))
 
-        pub loop-end-added : {kept′ : List ℕ} → added ≡ true → kept′ ≡ remembered kept (suc j) u → Reply v l (suc j) u s₀ c₀ kept′ s c Added
-        loop-end-added z e = record {
-          turned = λ n b f. end-added (h .going n b f) (Gathered (v .kind) (Yields v l (suc j) u) s c) all-in z;
-          seen = rw e loop-remembered;
-        }
-
-        pub loop-end-still : {kept′ : List ℕ} → added ≡ false → kept′ ≡ remembered kept (suc j) u → Reply v l (suc j) u s₀ c₀ kept′ s c Still
-        loop-end-still z e = record {
-          turned = λ n b f. end-still (h .going n b f) (Gathered (v .kind) (Yields v l (suc j) u) s c) all-in z;
-          seen = rw e loop-remembered;
-        }
+        -- whatever was added, also where some set is over-full
+        pub loop-end : {kept′ : List ℕ} → kept′ ≡ remembered kept (suc j) u → Reply v l (suc j) u s₀ c₀ kept′ s c t
+        loop-end e = record { turned = λ n b f. round-done (h .round n b f) all-in; seen = λ z. rw e (loop-remembered z) }

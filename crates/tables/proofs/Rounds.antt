@@ -13,6 +13,12 @@ use Rattle.tables.specs.declared.sets.Turn.{Turn}
 use Rattle.tables.specs.declared.sets.Turn.the-variants.{Still, Added, Full}
 use Rattle.tables.proofs.Memory.{kept-refl, kept-trans, turned-map, Lasts}
 
+-- where no set is over-full, what a turn was to bring about holds
+pub turned-done : {n : ℕ} {P : ℕ → ℕ → Type 0} {D : Type 0} {s c s′ c′ : List ℕ} (r : Turn) → (r ≡ Full → ⊥) → Turned n P D s c s′ c′ r → D
+turned-done Still h u = u .case .2
+turned-done Added h u = u .case .1
+turned-done Full h u = absurd (h refl)
+
 -- p attempts of `end` from s₀, c₀ have come to t: what each was to bring about holds; or some set is over-full, and there is none to follow
 pub record Round (n : ℕ) (P : ℕ → ℕ → Type 0) (D : List ℕ → List ℕ → ℕ → Type 0) (end : ℕ) (s₀ c₀ s c : List ℕ) (t : Turn) (p : ℕ) : Type 0 where
   pub turned : Turned n P ((i : ℕ) → i < p → D s c i) s₀ c₀ s c t
@@ -91,7 +97,7 @@ pub sweep-begun : {n : ℕ} {P : ℕ → ℕ → Type 0} (D : List ℕ → List 
     → Marks marks s c → length marks ≡ max-prods → OnSweep n P D Marks end s c marks s c Still 0
 sweep-begun D Marks end marks f m l = record { round = round-begun D end f; marked = λ z. m; long = l }
 
-joined-full : (t r : Turn) → r ≡ Full → joined t r ≡ Full
+pub joined-full : (t r : Turn) → r ≡ Full → joined t r ≡ Full
 joined-full t Still e = absurd (still-not-full e)
 joined-full t Added e = absurd (added-not-full e)
 joined-full t Full e = refl

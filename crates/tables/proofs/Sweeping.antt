@@ -18,15 +18,10 @@ use Rattle.tables.specs.Visit.{Gathered}
 use Rattle.tables.specs.Sweep.{Since, Served, total, Marked, Attended, Swept, Exact}
 use Rattle.tables.specs.declared.sets.Turn.{Turn}
 use Rattle.tables.specs.declared.sets.Turn.the-variants.{Still, Added, Full}
-use Rattle.tables.proofs.Memory.{kept-refl, kept-trans, equal-counts, turned-map, Lasts, Going, set-out, on-still, on-added, on-full, end-added, end-still}
+use Rattle.tables.proofs.Memory.{kept-refl, kept-trans, equal-counts}
+use Rattle.tables.proofs.Rounds.{turned-done}
 use Rattle.tables.proofs.Holds.{holds-fine}
 use Rattle.tables.proofs.Gathering.{fine-own}
-
--- where no set is over-full, what a turn was to bring about holds
-pub turned-done : {n : ℕ} {P : ℕ → ℕ → Type 0} {D : Type 0} {s c s′ c′ : List ℕ} (r : Turn) → (r ≡ Full → ⊥) → Turned n P D s c s′ c′ r → D
-turned-done Still h u = u .case .2
-turned-done Added h u = u .case .1
-turned-done Full h u = absurd (h refl)
 
 -- ---- sums of counts
 pub total-none : (c : List ℕ) (watch : ℕ → ℕ) → total c watch 0 ≡ 0
@@ -155,44 +150,6 @@ module _ (n prods : ℕ) (m w : ℕ → ℕ) (step : ℕ → ℕ → (ℕ → �
             → Marked n (m q) (step q) (into q) (watch q) (w q) (getD marks′ q 0) s′ c′
         go q h d (yes y) = rw (y, z, getD-set-same marks p mark 0 (omega arith)) (mark-visit (λ j k. targets p j l k) (u .kept) e d)
         go q h d (no y) = rw (z, getD-set-other marks p q mark 0 y) (marked-later (λ j k. targets q j h k) (u .kept) (old q h))
-
--- ---- a sweep: a turn for each production
-pub record OnSweep (n : ℕ) (P : ℕ → ℕ → Type 0) (D : List ℕ → List ℕ → ℕ → Type 0) (Marks : List ℕ → List ℕ → List ℕ → Type 0) (s₀ c₀ marks s c : List ℕ) (added : Bool) (p : ℕ) : Type 0 where
-  pub going : Going n P D s₀ c₀ s c added p
-  pub marked : Marks marks s c
-  pub long : length marks ≡ max-prods
-
-module _ {n : ℕ} {P : ℕ → ℕ → Type 0} {D : List ℕ → List ℕ → ℕ → Type 0} {Marks : List ℕ → List ℕ → List ℕ → Type 0} {s₀ c₀ marks s c : List ℕ} {added : Bool} {p : ℕ}
-    (h : OnSweep n P D Marks s₀ c₀ marks s c added p) where
-  module _ {E : Type 0} (marks′ : List ℕ) {s′ c′ : List ℕ} {r : Turn} (u : Attended n P E (Marks marks′) s c s′ c′ r) (serves : E → D s′ c′ p) (same : length marks′ ≡ length marks) where
-    turn : Turned n P (D s′ c′ p) s c s′ c′ r
-    turn = turned-map r serves (u .turned)
-
-    pub sweep-still : r ≡ Still → OnSweep n P D Marks s₀ c₀ marks′ s′ c′ added (p + 1)
-    sweep-still e = record { going = on-still (h .going) turn e; marked = u .marked (λ z. full-not-still (sym e ∙ z)); long = same ∙ h .long }
-      where
-        full-not-still : Still ≡ Full → ⊥
-        full-not-still z = let y : _≡_ {A = ℕ} 0 1 = cc in omega arith
-
-    pub sweep-added : Lasts n D → r ≡ Added → OnSweep n P D Marks s₀ c₀ marks′ s′ c′ true (p + 1)
-    sweep-added lasts e = record { going = on-added (h .going) turn lasts e; marked = u .marked (λ z. full-not-added (sym e ∙ z)); long = same ∙ h .long }
-      where
-        full-not-added : Added ≡ Full → ⊥
-        full-not-added z = let y : _≡_ {A = ℕ} 0 1 = cc in omega arith
-
-    pub sweep-full : (F : Type 0) → r ≡ Full → Attended n P F (Marks marks′) s₀ c₀ s′ c′ Full
-    sweep-full F e = record { turned = on-full (h .going) turn F e; marked = λ z. absurd (z refl) }
-
-  module _ (F : Type 0) (all : ((i : ℕ) → i < p → D s c i) → F) where
-    pub sweep-end-added : added ≡ true → Attended n P F (Marks marks) s₀ c₀ s c Added
-    sweep-end-added e = record { turned = end-added (h .going) F all e; marked = λ z. h .marked }
-
-    pub sweep-end-still : added ≡ false → Attended n P F (Marks marks) s₀ c₀ s c Still
-    sweep-end-still e = record { turned = end-still (h .going) F all e; marked = λ z. h .marked }
-
-pub sweep-begun : {n : ℕ} {P : ℕ → ℕ → Type 0} (D : List ℕ → List ℕ → ℕ → Type 0) (Marks : List ℕ → List ℕ → List ℕ → Type 0) (marks : List ℕ) {s c : List ℕ} → Fine n P s c
-    → Marks marks s c → length marks ≡ max-prods → OnSweep n P D Marks s c marks s c false 0
-sweep-begun {n} {P} D Marks marks {s} {c} f m l = record { going = set-out n P D s c f; marked = m; long = l }
 
 -- ---- sweeps until one adds nothing
 pub record Closing (n : ℕ) (P : ℕ → ℕ → Type 0) (Marks : List ℕ → List ℕ → List ℕ → Type 0) (s₀ c₀ marks s c : List ℕ) : Type 0 where

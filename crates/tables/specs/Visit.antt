@@ -16,6 +16,7 @@ use Rattle.tables.specs.Memory.{Fine, Turned}
 use Rattle.tables.specs.State.{State, Whole, Readable, width-in, based, tidied}
 use Rattle.tables.specs.Seen.{Stored}
 use Rattle.tables.specs.declared.sets.Turn.{Turn}
+use Rattle.tables.specs.declared.sets.Turn.the-variants.{Full}
 use Rattle.tables.specs.declared.gather.Visit.{Visit}
 
 -- the slots that a production can have, and as many turns
@@ -101,7 +102,7 @@ pub record Request (v : Visit) (l : List ℕ) (j : ℕ) (u kept s c : List ℕ) 
 -- and what it leaves
 pub record Reply (v : Visit) (l : List ℕ) (j : ℕ) (u s c kept′ s′ c′ : List ℕ) (r : Turn) : Type 0 where
   pub turned : Gathers (v .kind) (Yields v l j u) s c s′ c′ r
-  pub seen : Stored (Done v l s′ c′) kept′
+  pub seen : (r ≡ Full → ⊥) → Stored (Done v l s′ c′) kept′
 
 -- ── a visit made ready, off the production entry at the place at of the book b ──
 -- v with turn j given to a slot, and the codes of that slot's kind, off the sets s with the counts c, put into the lists l

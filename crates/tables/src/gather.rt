@@ -20,6 +20,8 @@ use super::seen::remember;
 use super::sets::MAX_MEMBERS;
 use super::sets::Turn;
 use super::sets::put;
+use super::turns::beyond;
+use super::turns::joined;
 use super::widen::wide;
 
 // A visit of a production: the slots whose codes are chosen, in turn, the last one first, each with its number of settings and of codes; and the
@@ -83,23 +85,16 @@ pub fn gather(
     if known(seen, j, s) {
         return Turn::Still;
     }
-    let n = wide(v.sizes[j - 1]);
+    let k = j - 1;
+    let n = wide(v.sizes[k]);
     let mut t = [NONE; LABELS];
-    let mut added = false;
+    let mut turn = Turn::Still;
     let mut i = 0;
     while i < n {
-        choose(v, j - 1, lists[(j - 1) * MAX_MEMBERS + i], s, &mut t);
-        match gather(v, j - 1, &t, lists, seen, sets, counts) {
-            Turn::Still => {}
-            Turn::Added => {
-                added = true;
-            }
-            Turn::Full => {
-                return Turn::Full;
-            }
-        }
-        i += 1;
+        choose(v, k, lists[k * MAX_MEMBERS + i], s, &mut t);
+        turn = joined(turn, gather(v, k, &t, lists, seen, sets, counts));
+        i = beyond(turn, i, n);
     }
     remember(seen, j, s);
-    if added { Turn::Added } else { Turn::Still }
+    turn
 }

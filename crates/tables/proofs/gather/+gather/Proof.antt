@@ -1,13 +1,13 @@
 -- Gathering meets its contract, by recursion on the turns left. Assumes nothing.
 use mathlib.Core.Path.{_∙_}
-use mathlib.Core.Logic.{⊎-elim}
 use Prim.Native.Nat.{ℕ, _≤_, _<_, _-_}
 use native.Mathlib.Omega.{arith}
 use borrow.Author.Needs.{needs}
 use borrow.Fn.Kinds.{In}
 use borrow.Fn.PlainCycle.{Measures, is, falls, and}
 use Rattle.tables.specs.Visit.{size-of}
-use Rattle.tables.proofs.Gathering.{one-less, reply-none, reply-known, Turning, loop-begun, loop-request, loop-state, loop-still, loop-added, loop-full, loop-end-added, loop-end-still, loop-long, loop-long-c, loop-long-seen}
+use Rattle.tables.proofs.Rounds.{round-less}
+use Rattle.tables.proofs.Gathering.{one-less, reply-none, reply-known, Turning, loop-begun, loop-request, loop-state, loop-next, loop-end, loop-long, loop-long-c, loop-long-seen}
 use Rattle.tables.proofs.gather.gather.Reads as gather
 use Rattle.tables.proofs.gather.gather.Kinds as gather-kinds
 use Rattle.tables.proofs.gather.+gather.Lts-gather as gather-lts
@@ -16,6 +16,8 @@ use Rattle.tables.proofs.gather.enter.Reads as enter-reads
 use Rattle.tables.proofs.widen.wide.Reads as wide-reads
 use Rattle.tables.proofs.seen.known.Reads as known-reads
 use Rattle.tables.proofs.seen.remember.Reads as remember-reads
+use Rattle.tables.proofs.turns.beyond.Reads as beyond-reads
+use Rattle.tables.proofs.turns.joined.Reads as joined-reads
 use Rattle.tables.proofs.gather.+gather.{statement}
 use Rattle.tables.proofs.gather.+gather.Tie.{close}
 
@@ -30,13 +32,13 @@ gather-below t = and 5 gather-kinds.ps (falls 5 gather-kinds.ps _<_ μ-gather t)
 
 -- what the callees ask and give; the recursive call only where turns fall
 abbrev claims : ℕ → gather-lts.Claims
-claims t = (enter-reads.Asked, enter-reads.Learnt, known-reads.Asked, known-reads.Learnt, wide-reads.Asked, wide-reads.Learnt, choose-reads.Asked, choose-reads.Learnt, gather-below t, gather.Post, remember-reads.Asked, remember-reads.Learnt)
+claims t = (enter-reads.Asked, enter-reads.Learnt, known-reads.Asked, known-reads.Learnt, wide-reads.Asked, wide-reads.Learnt, choose-reads.Asked, choose-reads.Learnt, gather-below t, gather.Post, joined-reads.Asked, joined-reads.Learnt, beyond-reads.Asked, beyond-reads.Learnt, remember-reads.Asked, remember-reads.Learnt)
 
 abbrev gather-Inv-loop : gather-lts.InvT-loop
-gather-Inv-loop j s lists seen₀ sets₀ counts₀ v n t₀ added₀ i₀ seen sets counts t added i = Turning v lists (j - 1) s sets₀ counts₀ seen sets counts t added i
+gather-Inv-loop j s lists seen₀ sets₀ counts₀ v k n t₀ turn₀ i₀ seen sets counts t turn i = Turning v lists (j - 1) s n sets₀ counts₀ seen sets counts t turn i
 
 abbrev gather-μ-loop : gather-lts.MeasureT-loop
-gather-μ-loop j s lists seen₀ sets₀ counts₀ v n t₀ added₀ i₀ seen sets counts t added i = n - i
+gather-μ-loop j s lists seen₀ sets₀ counts₀ v k n t₀ turn₀ i₀ seen sets counts t turn i = n - i
 
 module _ (t : ℕ) where
   enter-requires : gather-lts.Need-enter-requires (claims t) (gather-at t) gather.Post gather-Inv-loop gather-μ-loop
@@ -68,8 +70,8 @@ module _ (t : ℕ) where
       let e = one-less (c .before .before .before .before .before .before .before .before .args .j) (c .before .before .before .if1 .left) in
       rw e (reply-known _ _ _ _ (rw e at (c .before .before .before .before .before .before .before .before .pre .1)) (rw e at (c .before .known .ensures (c .if2 .taken))))
 
-  sub-wide : gather-lts.Need-sub-wide (claims t) (gather-at t) gather.Post gather-Inv-loop gather-μ-loop
-  sub-wide c = omega arith
+  sub-k : gather-lts.Need-sub-k (claims t) (gather-at t) gather.Post gather-Inv-loop gather-μ-loop
+  sub-k c = omega arith
 
   element-copy-out-wide : gather-lts.Need-element-copy-out-wide (claims t) (gather-at t) gather.Post gather-Inv-loop gather-μ-loop
   element-copy-out-wide c = omega (arith, c .before .before .before .before .before .before .before .before .pre .1 .ready .few)
@@ -80,13 +82,7 @@ module _ (t : ℕ) where
   loop-holds : gather-lts.Need-loop-holds (claims t) (gather-at t) gather.Post gather-Inv-loop gather-μ-loop
   loop-holds c =
       let e = one-less (c .before .before .before .before .before .before .before .before .before .before .args .j) (c .before .before .before .before .before .if1 .left) in
-      (loop-begun _ _ _ _ (rw e at (c .before .before .before .before .before .before .before .before .before .before .pre .1)), omega arith)
-
-  sub-choose : gather-lts.Need-sub-choose (claims t) (gather-at t) gather.Post gather-Inv-loop gather-μ-loop
-  sub-choose c = omega arith
-
-  sub-choose-2 : gather-lts.Need-sub-choose-2 (claims t) (gather-at t) gather.Post gather-Inv-loop gather-μ-loop
-  sub-choose-2 c = omega arith
+      (loop-begun _ _ _ _ (c .wide .result) (rw e at (c .before .before .before .before .before .before .before .before .before .before .pre .1)), omega arith)
 
   mul-choose : gather-lts.Need-mul-choose (claims t) (gather-at t) gather.Post gather-Inv-loop gather-μ-loop
   mul-choose c = omega arith
@@ -110,119 +106,60 @@ module _ (t : ℕ) where
       let q = rw e at (c .before .before .before .before .before .before .before .before .before .before .before .before .before .before .pre .1) in
       (q .ready, omega (arith, q .ready .few), q .standing, c .before .before .before .loop .inv .1)
 
-  sub-gather : gather-lts.Need-sub-gather (claims t) (gather-at t) gather.Post gather-Inv-loop gather-μ-loop
-  sub-gather c = omega arith
-
   gather-requires : gather-lts.Need-gather-requires (claims t) (gather-at t) gather.Post gather-Inv-loop gather-μ-loop
   gather-requires c κs =
       let e = one-less (c .before .before .before .before .before .before .before .before .before .before .before .before .before .before .before .before .before .before .before .args .j) (c .before .before .before .before .before .before .before .before .before .before .before .before .before .before .if1 .left) in
-      (omega arith, loop-request _ _ _ _ (rw e at (c .before .before .before .before .before .before .before .before .before .before .before .before .before .before .before .before .before .before .before .pre .1)) (c .before .before .before .before .before .before .before .before .loop .inv .0) (c .before .before .before .before .choose .ensures))
+      (omega arith, loop-request _ _ _ _ (rw e at (c .before .before .before .before .before .before .before .before .before .before .before .before .before .before .before .before .before .before .before .pre .1)) (c .before .before .before .before .before .before .before .before .loop .inv .0) (c .before .before .before .before .choose .ensures) (omega arith))
 
-  enum-told : gather-lts.Need-enum-told (claims t) (gather-at t) gather.Post gather-Inv-loop gather-μ-loop
-  enum-told c = search needs
+  joined-requires : gather-lts.Need-joined-requires (claims t) (gather-at t) gather.Post gather-Inv-loop gather-μ-loop
+  joined-requires c κs = search needs
 
-  enum-told-2 : gather-lts.Need-enum-told-2 (claims t) (gather-at t) gather.Post gather-Inv-loop gather-μ-loop
-  enum-told-2 c = search needs
-
-  enum-told-3 : gather-lts.Need-enum-told-3 (claims t) (gather-at t) gather.Post gather-Inv-loop gather-μ-loop
-  enum-told-3 c = search needs
-
-  same-length-4 : gather-lts.Need-same-length-4 (claims t) (gather-at t) gather.Post gather-Inv-loop gather-μ-loop
-  same-length-4 c =
-      let e = one-less (c .before .before .before .before .before .before .before .before .before .before .before .before .before .before .before .before .before .before .before .before .before .before .before .before .before .before .before .before .args .j) (c .before .before .before .before .before .before .before .before .before .before .before .before .before .before .before .before .before .before .before .before .before .before .before .if1 .left) in
-      let q = rw e at (c .before .before .before .before .before .before .before .before .before .before .before .before .before .before .before .before .before .before .before .before .before .before .before .before .before .before .before .before .pre .1) in
-      c .before .before .before .before .before .before .before .before .gather .kept .1 .1 .1 .1 .0 ∙ loop-long-seen _ _ _ _ q (c .before .before .before .before .before .before .before .before .before .before .before .before .before .before .before .before .before .loop .inv .0)
-
-  same-length-5 : gather-lts.Need-same-length-5 (claims t) (gather-at t) gather.Post gather-Inv-loop gather-μ-loop
-  same-length-5 c =
-      let e = one-less (c .before .before .before .before .before .before .before .before .before .before .before .before .before .before .before .before .before .before .before .before .before .before .before .before .before .before .before .before .args .j) (c .before .before .before .before .before .before .before .before .before .before .before .before .before .before .before .before .before .before .before .before .before .before .before .if1 .left) in
-      let q = rw e at (c .before .before .before .before .before .before .before .before .before .before .before .before .before .before .before .before .before .before .before .before .before .before .before .before .before .before .before .before .pre .1) in
-      c .before .before .before .before .before .before .before .before .gather .kept .1 .1 .1 .1 .1 .0 ∙ loop-long _ _ _ _ q (c .before .before .before .before .before .before .before .before .before .before .before .before .before .before .before .before .before .loop .inv .0)
-
-  same-length-6 : gather-lts.Need-same-length-6 (claims t) (gather-at t) gather.Post gather-Inv-loop gather-μ-loop
-  same-length-6 c =
-      let e = one-less (c .before .before .before .before .before .before .before .before .before .before .before .before .before .before .before .before .before .before .before .before .before .before .before .before .before .before .before .before .args .j) (c .before .before .before .before .before .before .before .before .before .before .before .before .before .before .before .before .before .before .before .before .before .before .before .if1 .left) in
-      let q = rw e at (c .before .before .before .before .before .before .before .before .before .before .before .before .before .before .before .before .before .before .before .before .before .before .before .before .before .before .before .before .pre .1) in
-      c .before .before .before .before .before .before .before .before .gather .kept .1 .1 .1 .1 .1 .1 .0 ∙ loop-long-c _ _ _ _ q (c .before .before .before .before .before .before .before .before .before .before .before .before .before .before .before .before .before .loop .inv .0)
-
-  returns-3 : gather-lts.Need-returns-3 (claims t) (gather-at t) gather.Post gather-Inv-loop gather-μ-loop
-  returns-3 c =
-      let e = one-less (c .before .before .before .before .before .before .before .before .before .before .before .before .before .before .before .before .before .before .before .before .before .before .before .before .before .before .before .before .args .j) (c .before .before .before .before .before .before .before .before .before .before .before .before .before .before .before .before .before .before .before .before .before .before .before .if1 .left) in
-      let q = rw e at (c .before .before .before .before .before .before .before .before .before .before .before .before .before .before .before .before .before .before .before .before .before .before .before .before .before .before .before .before .pre .1) in
-      rw e (loop-full _ _ _ _ q (c .before .before .before .before .before .before .before .before .before .before .before .before .before .before .before .before .before .loop .inv .0) (c .before .before .before .before .before .before .before .before .before .before .before .before .before .choose .ensures) (omega arith) (c .before .before .before .before .before .before .before .before .gather .ensures) (c .enum-told3 .given .1))
-
-  add-i : gather-lts.Need-add-i (claims t) (gather-at t) gather.Post gather-Inv-loop gather-μ-loop
-  add-i c = omega arith
+  beyond-requires : gather-lts.Need-beyond-requires (claims t) (gather-at t) gather.Post gather-Inv-loop gather-μ-loop
+  beyond-requires c κs = omega arith
 
   loop-less : gather-lts.Need-loop-less (claims t) (gather-at t) gather.Post gather-Inv-loop gather-μ-loop
-  loop-less c = omega arith
+  loop-less c = round-less (c .before .joined .result) (omega arith) (c .beyond .ensures)
 
   loop-again : gather-lts.Need-loop-again (claims t) (gather-at t) gather.Post gather-Inv-loop gather-μ-loop
   loop-again c =
-      let e = one-less (c .before .before .before .before .before .before .before .before .before .before .before .before .before .before .before .before .before .before .before .before .before .before .before .before .before .before .before .args .j) (c .before .before .before .before .before .before .before .before .before .before .before .before .before .before .before .before .before .before .before .before .before .before .if1 .left) in
-      let q = rw e at (c .before .before .before .before .before .before .before .before .before .before .before .before .before .before .before .before .before .before .before .before .before .before .before .before .before .before .before .pre .1) in
-      let h = c .before .before .before .before .before .before .before .before .before .before .before .before .before .before .before .before .loop .inv .0 in
-      let w = c .before .before .before .before .before .before .before .before .before .before .before .before .choose .ensures in
-      let r = c .before .before .before .before .before .before .before .gather .ensures in
-      let b : c .before .before .before .before .before .before .before .before .before .before .before .before .before .before .before .before .loop .i < size-of (c .before .before .before .before .before .before .before .before .before .before .before .before .before .before .before .before .before .before .before .before .before .before .before .before .before .before .before .args .t1) (c .before .before .before .before .before .before .before .before .before .before .before .before .before .before .before .before .before .before .before .before .before .before .before .before .before .before .before .args .j - 1) = omega arith in (
-        ⊎-elim (λ m. rw (m .2) (loop-still _ _ _ _ q h w b r (m .1 .given .1))) (λ m. rw (m .2) (loop-added _ _ _ _ q h w b r (m .1 .given .1))) (c .match .came),
+      let e = one-less (c .before .before .before .before .before .before .before .before .before .before .before .before .before .before .before .before .before .before .before .before .before .before .before .before .before .before .before .before .args .j) (c .before .before .before .before .before .before .before .before .before .before .before .before .before .before .before .before .before .before .before .before .before .before .before .if1 .left) in
+      let q = rw e at (c .before .before .before .before .before .before .before .before .before .before .before .before .before .before .before .before .before .before .before .before .before .before .before .before .before .before .before .before .pre .1) in
+      let h = c .before .before .before .before .before .before .before .before .before .before .before .before .before .before .before .before .before .loop .inv .0 in
+      let w = c .before .before .before .before .before .before .before .before .before .before .before .before .before .choose .ensures in
+      let b : c .before .before .before .before .before .before .before .before .before .before .before .before .before .before .before .before .before .loop .i < size-of (c .before .before .before .before .before .before .before .before .before .before .before .before .before .before .before .before .before .before .before .before .before .before .before .before .before .before .before .before .args .t1) (c .before .before .before .before .before .before .before .before .before .before .before .before .before .before .before .before .before .before .before .before .before .before .before .before .before .before .before .before .args .j - 1) = omega arith in (
+        loop-next _ _ _ _ q h w b (c .before .before .before .before .before .before .before .before .gather .ensures) (omega arith) (c .before .before .before .before .before .before .before .before .gather .kept .1 .1 .1 .1 .0) (c .before .joined .ensures) (c .beyond .ensures),
         loop-state _ _ _ _ q h w,
       )
 
   remember-requires : gather-lts.Need-remember-requires (claims t) (gather-at t) gather.Post gather-Inv-loop gather-μ-loop
   remember-requires c κs =
       let p = c .before .before .before .before .before .before .before .before .before .before .before .before .before .pre .1 in
-      (omega (arith, p .ready .few), c .before .before .loop .inv .0 .seen .long, p .standing .state .long)
+      (omega (arith, p .ready .few), c .before .before .loop .inv .0 .long, p .standing .state .long)
 
-  same-length-7 : gather-lts.Need-same-length-7 (claims t) (gather-at t) gather.Post gather-Inv-loop gather-μ-loop
-  same-length-7 c =
-      let e = one-less (c .before .before .before .before .before .before .before .before .before .before .before .before .before .before .before .before .before .args .j) (c .before .before .before .before .before .before .before .before .before .before .before .before .if1 .left) in
-      let q = rw e at (c .before .before .before .before .before .before .before .before .before .before .before .before .before .before .before .before .before .pre .1) in
-      c .before .before .before .remember .kept .0 ∙ loop-long-seen _ _ _ _ q (c .before .before .before .before .before .before .loop .inv .0)
+  same-length-4 : gather-lts.Need-same-length-4 (claims t) (gather-at t) gather.Post gather-Inv-loop gather-μ-loop
+  same-length-4 c =
+      let e = one-less (c .before .before .before .before .before .before .before .before .before .before .before .before .before .before .before .before .args .j) (c .before .before .before .before .before .before .before .before .before .before .before .if1 .left) in
+      let q = rw e at (c .before .before .before .before .before .before .before .before .before .before .before .before .before .before .before .before .pre .1) in
+      c .before .before .remember .kept .0 ∙ loop-long-seen _ _ _ _ q (c .before .before .before .before .before .loop .inv .0)
 
-  same-length-8 : gather-lts.Need-same-length-8 (claims t) (gather-at t) gather.Post gather-Inv-loop gather-μ-loop
-  same-length-8 c =
-      let e = one-less (c .before .before .before .before .before .before .before .before .before .before .before .before .before .before .before .before .before .args .j) (c .before .before .before .before .before .before .before .before .before .before .before .before .if1 .left) in
-      let q = rw e at (c .before .before .before .before .before .before .before .before .before .before .before .before .before .before .before .before .before .pre .1) in
-      loop-long _ _ _ _ q (c .before .before .before .before .before .before .loop .inv .0)
+  same-length-5 : gather-lts.Need-same-length-5 (claims t) (gather-at t) gather.Post gather-Inv-loop gather-μ-loop
+  same-length-5 c =
+      let e = one-less (c .before .before .before .before .before .before .before .before .before .before .before .before .before .before .before .before .args .j) (c .before .before .before .before .before .before .before .before .before .before .before .if1 .left) in
+      let q = rw e at (c .before .before .before .before .before .before .before .before .before .before .before .before .before .before .before .before .pre .1) in
+      loop-long _ _ _ _ q (c .before .before .before .before .before .loop .inv .0)
 
-  same-length-9 : gather-lts.Need-same-length-9 (claims t) (gather-at t) gather.Post gather-Inv-loop gather-μ-loop
-  same-length-9 c =
-      let e = one-less (c .before .before .before .before .before .before .before .before .before .before .before .before .before .before .before .before .before .args .j) (c .before .before .before .before .before .before .before .before .before .before .before .before .if1 .left) in
-      let q = rw e at (c .before .before .before .before .before .before .before .before .before .before .before .before .before .before .before .before .before .pre .1) in
-      loop-long-c _ _ _ _ q (c .before .before .before .before .before .before .loop .inv .0)
+  same-length-6 : gather-lts.Need-same-length-6 (claims t) (gather-at t) gather.Post gather-Inv-loop gather-μ-loop
+  same-length-6 c =
+      let e = one-less (c .before .before .before .before .before .before .before .before .before .before .before .before .before .before .before .before .args .j) (c .before .before .before .before .before .before .before .before .before .before .before .if1 .left) in
+      let q = rw e at (c .before .before .before .before .before .before .before .before .before .before .before .before .before .before .before .before .pre .1) in
+      loop-long-c _ _ _ _ q (c .before .before .before .before .before .loop .inv .0)
 
-  returns-4 : gather-lts.Need-returns-4 (claims t) (gather-at t) gather.Post gather-Inv-loop gather-μ-loop
-  returns-4 c =
-      let e = one-less (c .before .before .before .before .before .before .before .before .before .before .before .before .before .before .before .before .before .args .j) (c .before .before .before .before .before .before .before .before .before .before .before .before .if1 .left) in
-      let q = rw e at (c .before .before .before .before .before .before .before .before .before .before .before .before .before .before .before .before .before .pre .1) in
-      let b : size-of (c .before .before .before .before .before .before .before .before .before .before .before .before .before .before .before .before .before .args .t1) (c .before .before .before .before .before .before .before .before .before .before .before .before .before .before .before .before .before .args .j - 1) ≤ c .before .before .before .before .before .before .loop .i = omega arith in
-      rw e (loop-end-added _ _ _ _ q (c .before .before .before .before .before .before .loop .inv .0) b (c .if3 .taken) (rw e at (c .before .before .before .remember .ensures)))
-
-  same-length-10 : gather-lts.Need-same-length-10 (claims t) (gather-at t) gather.Post gather-Inv-loop gather-μ-loop
-  same-length-10 c =
-      let e = one-less (c .before .before .before .before .before .before .before .before .before .before .before .before .before .before .before .before .before .args .j) (c .before .before .before .before .before .before .before .before .before .before .before .before .if1 .left) in
-      let q = rw e at (c .before .before .before .before .before .before .before .before .before .before .before .before .before .before .before .before .before .pre .1) in
-      c .before .before .before .remember .kept .0 ∙ loop-long-seen _ _ _ _ q (c .before .before .before .before .before .before .loop .inv .0)
-
-  same-length-11 : gather-lts.Need-same-length-11 (claims t) (gather-at t) gather.Post gather-Inv-loop gather-μ-loop
-  same-length-11 c =
-      let e = one-less (c .before .before .before .before .before .before .before .before .before .before .before .before .before .before .before .before .before .args .j) (c .before .before .before .before .before .before .before .before .before .before .before .before .if1 .left) in
-      let q = rw e at (c .before .before .before .before .before .before .before .before .before .before .before .before .before .before .before .before .before .pre .1) in
-      loop-long _ _ _ _ q (c .before .before .before .before .before .before .loop .inv .0)
-
-  same-length-12 : gather-lts.Need-same-length-12 (claims t) (gather-at t) gather.Post gather-Inv-loop gather-μ-loop
-  same-length-12 c =
-      let e = one-less (c .before .before .before .before .before .before .before .before .before .before .before .before .before .before .before .before .before .args .j) (c .before .before .before .before .before .before .before .before .before .before .before .before .if1 .left) in
-      let q = rw e at (c .before .before .before .before .before .before .before .before .before .before .before .before .before .before .before .before .before .pre .1) in
-      loop-long-c _ _ _ _ q (c .before .before .before .before .before .before .loop .inv .0)
-
-  returns-5 : gather-lts.Need-returns-5 (claims t) (gather-at t) gather.Post gather-Inv-loop gather-μ-loop
-  returns-5 c =
-      let e = one-less (c .before .before .before .before .before .before .before .before .before .before .before .before .before .before .before .before .before .args .j) (c .before .before .before .before .before .before .before .before .before .before .before .before .if1 .left) in
-      let q = rw e at (c .before .before .before .before .before .before .before .before .before .before .before .before .before .before .before .before .before .pre .1) in
-      let b : size-of (c .before .before .before .before .before .before .before .before .before .before .before .before .before .before .before .before .before .args .t1) (c .before .before .before .before .before .before .before .before .before .before .before .before .before .before .before .before .before .args .j - 1) ≤ c .before .before .before .before .before .before .loop .i = omega arith in
-      rw e (loop-end-still _ _ _ _ q (c .before .before .before .before .before .before .loop .inv .0) b (c .if3 .left) (rw e at (c .before .before .before .remember .ensures)))
+  returns-3 : gather-lts.Need-returns-3 (claims t) (gather-at t) gather.Post gather-Inv-loop gather-μ-loop
+  returns-3 c =
+      let e = one-less (c .before .before .before .before .before .before .before .before .before .before .before .before .before .before .before .before .args .j) (c .before .before .before .before .before .before .before .before .before .before .before .if1 .left) in
+      let q = rw e at (c .before .before .before .before .before .before .before .before .before .before .before .before .before .before .before .before .pre .1) in
+      let b : size-of (c .before .before .before .before .before .before .before .before .before .before .before .before .before .before .before .before .args .t1) (c .before .before .before .before .before .before .before .before .before .before .before .before .before .before .before .before .args .j - 1) ≤ c .before .before .before .before .before .loop .i = omega arith in
+      rw e (loop-end _ _ _ _ q (c .before .before .before .before .before .loop .inv .0) b (rw e at (c .before .before .remember .ensures)))
 
 pub +gather-spec : {M : Type 1} → statement M
-+gather-spec = close μ-gather (λ t. gather-lts.spec (claims t) (gather-at t) gather.Post gather-Inv-loop gather-μ-loop (enter-requires t) (same-length t) (same-length-2 t) (returns t) (known-requires t) (same-length-3 t) (returns-2 t) (sub-wide t) (element-copy-out-wide t) (wide-requires t) (loop-holds t) (sub-choose t) (sub-choose-2 t) (mul-choose t) (add-choose t) (mul-choose-2 t) (shared-slice-read-choose t) (choose-requires t) (sub-gather t) (gather-requires t) (enum-told t) (enum-told-2 t) (enum-told-3 t) (same-length-4 t) (same-length-5 t) (same-length-6 t) (returns-3 t) (add-i t) (loop-less t) (loop-again t) (remember-requires t) (same-length-7 t) (same-length-8 t) (same-length-9 t) (returns-4 t) (same-length-10 t) (same-length-11 t) (same-length-12 t) (returns-5 t))
++gather-spec = close μ-gather (λ t. gather-lts.spec (claims t) (gather-at t) gather.Post gather-Inv-loop gather-μ-loop (enter-requires t) (same-length t) (same-length-2 t) (returns t) (known-requires t) (same-length-3 t) (returns-2 t) (sub-k t) (element-copy-out-wide t) (wide-requires t) (loop-holds t) (mul-choose t) (add-choose t) (mul-choose-2 t) (shared-slice-read-choose t) (choose-requires t) (gather-requires t) (joined-requires t) (beyond-requires t) (loop-less t) (loop-again t) (remember-requires t) (same-length-4 t) (same-length-5 t) (same-length-6 t) (returns-3 t))
