@@ -25,6 +25,7 @@ use super::visit::MARKS;
 use super::visit::looking_at;
 use super::visit::open_turn;
 use super::visit::visit;
+use super::widen::narrow;
 use super::widen::span;
 use super::widen::wide;
 use super::widen::word;
@@ -138,22 +139,17 @@ fn serve_down(
         (DownServed (now (book .entry)) (now (plausible .entry)) (now (counts .entry)) p (now (feasible .entry)) (now (tally .entry)) (now (feasible .exit)) (now (tally .exit)))
         (now (feasible .entry)) (now (tally .entry)) (now (feasible .exit)) (now (tally .exit)) r) ⌝ }
 {
-    let n = book::arity(book, at);
-    let mut added = false;
-    let mut j: u8 = 0;
+    let n = wide(book::arity(book, at));
+    let mut turn = Turn::Still;
+    let mut j = 0;
     while j < n {
-        match visit_down(book, at, j + 1, plausible, counts, feasible, tally) {
-            Turn::Still => {}
-            Turn::Added => {
-                added = true;
-            }
-            Turn::Full => {
-                return Turn::Full;
-            }
-        }
-        j += 1;
+        turn = joined(
+            turn,
+            visit_down(book, at, narrow(j + 1), plausible, counts, feasible, tally),
+        );
+        j = beyond(turn, j, n);
     }
-    if added { Turn::Added } else { Turn::Still }
+    turn
 }
 
 // Production p's turn in a sweep. It is passed over where its left kind has no more feasible groupings than at its last visit: all its results are in.
