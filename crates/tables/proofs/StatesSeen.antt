@@ -1,5 +1,5 @@
 -- What stands among the states seen keeps having what was shown of it, as states are put there and as more comes to have it.
-use mathlib.Core.Path.{_≡_, refl, sym, ap, _∙_, subst}
+use mathlib.Core.Path.{_≡_, refl, sym, ap, ap₂, _∙_, subst}
 use mathlib.Core.Logic.{_⊎_, inl, inr, ⊎-elim}
 use mathlib.Core.Bool.{Bool, true, false}
 use mathlib.Core.List.{List}
@@ -122,3 +122,8 @@ module _ {W : ℕ → List ℕ → Type 0} {l : List ℕ} (h : Stored W l) (j : 
       go : (k i : ℕ) → k < levels → i < filled (remembered l j s) k → Dec (k ≡ j) → W k (stored (remembered l j s) k i)
       go k i b f (yes e) = rw e (here-has i (ℕ-discrete i (counter l j % places)) (rw e at f))
       go k i b f (no d) = there-has k i b d f
+
+-- ── how a state is put ──
+pub remember-put : (l s : List ℕ) (j : ℕ) {l′ : List ℕ} {n a : ℕ} → n ≡ counter l j → l′ ≡ place (j * level-bytes + 1 + n % places * labels) s l → a ≡ advanced (counter l j)
+    → set l′ (j * level-bytes) a ≡ remembered l j s
+remember-put l s j e f g = ap₂ (λ x y. set x (j * level-bytes) y) (f ∙ ap (λ k. place (j * level-bytes + 1 + k % places * labels) s l) e) g

@@ -1,5 +1,5 @@
 -- Gathering meets its contract, by recursion on the turns left. Assumes nothing.
-use mathlib.Core.Path.{_∙_}
+use mathlib.Core.Path.{_≡_, _∙_}
 use Prim.Native.Nat.{ℕ, _≤_, _<_, _-_}
 use native.Mathlib.Omega.{arith}
 use borrow.Author.Needs.{needs}
@@ -43,7 +43,8 @@ gather-μ-loop j s lists seen₀ sets₀ counts₀ v k n t₀ turn₀ i₀ seen 
 module _ (t : ℕ) where
   enter-requires : gather-lts.Need-enter-requires (claims t) (gather-at t) gather.Post gather-Inv-loop gather-μ-loop
   enter-requires c κs =
-      let q = rw (c .before .before .if1 .taken) at (c .before .before .before .before .before .before .before .pre .1) in
+      let e : c .before .before .before .before .before .before .before .args .j ≡ 0 = omega (arith, c .before .before .if1 .taken) in
+      let q = rw e at (c .before .before .before .before .before .before .before .pre .1) in
       (q .ready, q .standing, q .order)
 
   same-length : gather-lts.Need-same-length (claims t) (gather-at t) gather.Post gather-Inv-loop gather-μ-loop

@@ -1,5 +1,6 @@
 -- A state put at a level. Assumes nothing.
 use borrow.Author.Needs.{needs}
+use Rattle.tables.proofs.StatesSeen.{remember-put}
 use Rattle.tables.proofs.seen.remember.Statement.{statement}
 use Rattle.tables.proofs.seen.remember.Tie as tie
 
@@ -34,7 +35,7 @@ same-length : tie.Need-same-length
 same-length c = search needs
 
 returns : tie.Need-returns
-returns c = cc
+returns c = remember-put (c .before .before .before .before .before .before .before .before .args .seen .now) (c .before .before .before .before .before .before .before .before .args .s .now) (c .before .before .before .before .before .before .before .before .args .level) (c .before .before .before .before .wide .ensures .0) (c .before .before .before .copy-state .ensures) (c .advanced .ensures)
 
 pub remember-spec : {M : Type 1} → statement M
 remember-spec =
