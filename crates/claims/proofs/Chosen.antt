@@ -15,6 +15,7 @@ use Rattle.chains.specs.Tree.{Bush, nil, grow, size, flat, Kinded, Root, Sub, r
 use Rattle.chains.specs.Chain.{Slotwise, Closure}
 use Rattle.chains.specs.Grouping.{Says, Each}
 use Rattle.chains.specs.Feasible.{Chosen}
+use Rattle.chains.specs.State.{number}
 use Rattle.chains.specs.Choice.{kid-codes, ChosenUp, ChosenDown}
 use Rattle.chains.specs.Numbering.{Told}
 use Rattle.chains.proofs.Says.{members-at}
@@ -45,15 +46,12 @@ module _ (T : Tables) (e : ℕ) where
   label-byte : (s a : ℕ) → s * 8 + a < labels → getD (take labels bytes) (s * 8 + a) none ≡ label-in T e s a
   label-byte s a h = getD-take labels bytes (s * 8 + a) none h ∙ getD-part (e * entry-bytes) entry-bytes (T .down) (s * 8 + a) none (omega arith)
 
--- an occurrence that exists, as a byte
-abbrev byte : Occ → ℕ
-byte o = o .0 * 8 + o .1
-
+-- an occurrence that exists has its byte
 module _ (G : Grammar) (L : Lawful G) (p : ℕ) (there : p < G .prods) (o : Occ) (x : Exists G p o) where
-  byte-low : byte o < labels
+  byte-low : number o < labels
   byte-low = omega (arith, x .0, x .1, width-few G L p there (o .0) (x .0), L .few-kids p there)
 
-  byte-occ : occ (byte o) ≡ o
+  byte-occ : occ (number o) ≡ o
   byte-occ =
       let h : o .1 < 8 = omega (arith, x .1, width-few G L p there (o .0) (x .0)) in
       Σ-path (omega arith) (omega arith)
@@ -203,8 +201,8 @@ module _ {G : Grammar} (L : Lawful G) {s f : List ℕ} {T : Tables} (served : Se
         let l′ = byte-low G L q there o′ x′ in
         let b = byte-occ G L q there o x in
         let b′ = byte-occ G L q there o′ x′ in
-        let same = entry-read i q ds t (feasible-below i q ds t) .blocks .same (byte o) (byte o′) l l′ (subst (Exists G q) (sym b) x) (subst (Exists G q) (sym b′) x′) in
-        let alike = subst₂ (λ y z. (y ≡ z) ↔ Downward G q (feasible-code i) (kid-codes plausible-code i ds) (occ (byte o)) (occ (byte o′)))
+        let same = entry-read i q ds t (feasible-below i q ds t) .blocks .same (number o) (number o′) l l′ (subst (Exists G q) (sym b) x) (subst (Exists G q) (sym b′) x′) in
+        let alike = subst₂ (λ y z. (y ≡ z) ↔ Downward G q (feasible-code i) (kid-codes plausible-code i ds) (occ (number o)) (occ (number o′)))
         (label-byte T e (o .0) (o .1) l) (label-byte T e (o′ .0) (o′ .1) l′) same in
         subst₂ (λ y z. (label-of G T e o ≡ label-of G T e o′) ↔ Downward G q (feasible-code i) (kid-codes plausible-code i ds) y z) b b′ alike
 

@@ -13,9 +13,8 @@ use Rattle.chains.specs.Tree.{Bush, size, count, flat, Kinded, Root, Sub}
 use Rattle.chains.proofs.Range.{root-exists}
 use Rattle.chains.proofs.WellKinded.{kinded-count}
 use Rattle.book.specs.Format.{grammar}
-use Rattle.book.specs.Refusals as book
 use Rattle.sheet.specs.Reading.{settings-of}
-use Rattle.sheet.specs.Refusals as sheet
+use Rattle.sheet.proofs.Refusals.{Row, books, lengths, reads, row, book-low, fault-low}
 use Rattle.sheet.proofs.Trees.{sheet-tree}
 use Rattle.ranks.specs.Entries.{up-entry, down-entry, entry-bytes}
 use Rattle.ranks.proofs.Numbers.{up-entry-below, down-entry-below}
@@ -67,30 +66,16 @@ module _ {G : Grammar} (L : Lawful G) {s f : List ℕ} {T : Tables} (served : Se
             omega (arith, here L served tree kinded told itself i q ds t .handed j m r)
 
 -- ── which rows there are before 25 ──
-book-row : {b : List ℕ} {n p : ℕ} → book.Applies b n p → n < 9
-book-row (book.short h) = omega arith
-book-row (book.other-edition h) = omega arith
-book-row (book.out-of-range h) = omega arith
-book-row (book.not-laid h) = omega arith
-book-row (book.bad-kind k l h) = omega arith
-book-row (book.bad-kids p l h) = omega arith
-book-row (book.bad-ties p l h) = omega arith
-book-row (book.headless k l h) = omega arith
-
-sheet-row : {b l : List ℕ} {n p : ℕ} → sheet.Applies b l n p → n < 24
-sheet-row (sheet.of-book a) = let h = book-row a in omega arith
-sheet-row (sheet.bad-length h) = omega arith
-sheet-row (sheet.no-production i ds r h k) = omega arith
-sheet-row (sheet.other-kind i k v ds r h e) = omega arith
-sheet-row (sheet.ends-early d ds r) = omega arith
-sheet-row (sheet.bytes-left i r h) = omega arith
-sheet-row (sheet.too-deep i k v ds r h e) = omega arith
+sheet-row : {b l : List ℕ} {n p : ℕ} → Row b l n p → n < 24
+sheet-row (books a) = let h = book-low a in omega arith
+sheet-row (lengths e f h) = omega arith
+sheet-row (reads ds r f) = fault-low f
 
 -- a build of the book b left m, and T has it; n₀ is lent to a call with the sheet l
 module _ {b l : List ℕ} {m₀ m : tables.Lent} {entries : List ℕ} {T : Tables} {n₀ : Lent} (build : tables.BuildDue b m₀ (accepted entries) m) (taken : Taken (grammar b) m T) where
   -- THEOREM: no row applies but those before 25
   pub below-25 : {n p t : ℕ} → Applies b l T n₀ n p t → n < 25
-  below-25 (of-sheet a) = let h = sheet-row a in omega arith
+  below-25 (of-sheet a) = let h = sheet-row (row a) in omega arith
   below-25 (short-counts h) = omega arith
   below-25 (short-room h) = omega arith
   below-25 (big-count h) = absurd (counts-few (built-lawful build) (built-serves build taken) h)
