@@ -1,16 +1,16 @@
 -- By tables that serve their grammar the two walks read the ranks of a tree's codes: upward those of its subtrees' own chains, downward those of the
 -- whole tree's; and the labels of a node's entry agree exactly where the whole tree's chains join.
 use mathlib.Core.Path.{_≡_, refl, sym, ap, ap₂, _∙_, subst, subst₂, Σ-path}
-use mathlib.Core.Logic.{_⊎_, inl, inr, _↔_}
+use mathlib.Core.Logic.{inl, inr, _↔_}
 use mathlib.Core.List.{List, [], _∷_, map}
-use Prim.Native.Nat.{ℕ, zero, suc, _+_, _*_, _/_, _%_, _≤_, _<_}
+use Prim.Native.Nat.{ℕ, suc, _+_, _*_, _<_}
 use native.Mathlib.Omega.{arith}
-use lib.ListN.{length, getD, take}
+use lib.ListN.{getD, take}
 use lib.Seq.{getD-take}
 use Rattle.lists.specs.Part.{part}
 use Rattle.lists.proofs.Parts.{getD-part}
 use Rattle.lists.proofs.Carries.{Carries}
-use Rattle.chains.specs.Grammar.{Occ, Grammar, Lawful, slots, width, Exists}
+use Rattle.chains.specs.Grammar.{Occ, Grammar, Lawful, width, Exists}
 use Rattle.chains.specs.Tree.{Bush, nil, grow, size, flat, Kinded, Root, Sub, roots}
 use Rattle.chains.specs.Chain.{Slotwise, Closure}
 use Rattle.chains.specs.Grouping.{Says, Each}
@@ -26,8 +26,8 @@ use Rattle.chains.proofs.Sharing.{labels-told}
 use Rattle.book.specs.Format.{occ}
 use Rattle.ranks.specs.Entries.{labels, entry-bytes, none}
 use Rattle.tables.specs.Sets.{member}
-use Rattle.tables.specs.Entries.{Ranks, picked, Upward, Downward, Ranked, DownEntry}
-use Rattle.numbering.specs.Walk.{Tables, ranks, entry-of, given, label-in, places, started}
+use Rattle.tables.specs.Entries.{Ranks, picked, Downward, Ranked, DownEntry}
+use Rattle.numbering.specs.Walk.{Tables, ranks, given, label-in, places, started}
 use Rattle.numbering.specs.Places.{plausible-rank, feasible-rank, down-entry-of}
 use Rattle.numbering.proofs.Told.{read-rank, Visited, visited, roots-told, ranks-told}
 use Rattle.numbering.proofs.Listed.{label-of}

@@ -1,16 +1,16 @@
 -- Fig. 1's plausible and feasible codes, by trees and chains: each of those listed is one, and there are no others. So a build of its book leaves what
 -- was worked out.
-use mathlib.Core.Path.{_≡_, refl, sym, ap, _∙_, subst}
-use mathlib.Core.Logic.{_⊎_, inl, inr, _↔_}
-use mathlib.Core.Bool.{Bool, true, false}
+use mathlib.Core.Path.{_≡_, refl, sym, _∙_}
+use mathlib.Core.Logic.{inl, inr, _↔_}
+use mathlib.Core.Bool.{Bool, true}
 use mathlib.Core.List.{List, [], _∷_, List·Memᴰ, List·Memᴰ·cases-cons, List·Memᴰ·not-nil}
-use Prim.Native.Nat.{ℕ, zero, suc, _+_, _*_, _≤_, _<_}
+use Prim.Native.Nat.{ℕ, zero, suc, _≤_, _<_}
 use native.Mathlib.Omega.{arith}
 use borrow.Author.Tests.{eqb-true, le-ltb}
 use lib.Dec.{ltb, eqb}
 use lib.ListN.{length, getD, List·getD-eq-default}
 use Rattle.lists.specs.Pick.{pick}
-use Rattle.lists.specs.Rising.{Rising, none, single, step}
+use Rattle.lists.specs.Rising.{Rising, single, step}
 use Rattle.lists.specs.Refusals.{accepted}
 use Rattle.chains.specs.Limits.{max-members}
 use Rattle.chains.specs.Grammar.{Grammar, Lawful, width}
@@ -22,11 +22,11 @@ use Rattle.chains.specs.Feasible.{Feasible, root, down}
 use Rattle.chains.proofs.Plausible.{plausible-sound, plausible-iff}
 use Rattle.chains.proofs.Feasible.{feasible-iff}
 use Rattle.book.specs.Format.{entry, ties-of, grammar}
-use Rattle.ranks.specs.Entries.{choices, up-start, down-start, entry-bytes}
+use Rattle.ranks.specs.Entries.{choices, up-start, down-start}
 use Rattle.tables.specs.Sets.{Has, member, members, Holds}
 use Rattle.tables.specs.Memory.{Placed}
 use Rattle.tables.specs.State.{based}
-use Rattle.tables.specs.Promise.{Lent, up-entries, down-entries, Applies, of-book, short-slice, over-plausible, over-feasible, short-up, short-down, Counted, Built, BuildDue}
+use Rattle.tables.specs.Promise.{up-entries, down-entries, Applies, of-book, short-slice, over-plausible, over-feasible, short-up, short-down, Counted, BuildDue}
 use Rattle.tables.proofs.Holds.{holds-counted, over-never, counted-once}
 use Rattle.tables.proofs.Entries.{up-entries-same, down-entries-same}
 use Rattle.claims.specs.Examples.{book, room}

@@ -1,27 +1,26 @@
 -- A sheet call by what a build of its own book left is never refused with 25.
-use mathlib.Core.Path.{_≡_, refl, sym, ap, _∙_, subst}
-use mathlib.Core.Logic.{_⊎_, inl, inr}
+use mathlib.Core.Path.{_≡_, refl}
+use mathlib.Core.Logic.{inl, inr}
 use mathlib.Core.List.{List, [], _∷_, _++_}
 use Prim.Native.Nat.{ℕ, suc, _+_, _*_, _≤_, _<_}
 use native.Mathlib.Omega.{arith}
 use lib.ListN.{length, getD, drop}
-use Rattle.lists.specs.Refusals.{Said, accepted, refused}
+use Rattle.lists.specs.Refusals.{accepted, refused}
 use Rattle.lists.proofs.Carries.{Carries}
-use Rattle.chains.specs.Limits.{max-members}
 use Rattle.chains.specs.Grammar.{Grammar, Lawful}
-use Rattle.chains.specs.Tree.{Bush, size, count, flat, Kinded, Root, Sub}
+use Rattle.chains.specs.Tree.{Bush, Kinded, Sub}
 use Rattle.chains.proofs.Range.{root-exists}
 use Rattle.chains.proofs.WellKinded.{kinded-count}
 use Rattle.book.specs.Format.{grammar}
 use Rattle.sheet.specs.Reading.{settings-of}
 use Rattle.sheet.proofs.Refusals.{Row, books, lengths, reads, row, book-low, fault-low}
 use Rattle.sheet.proofs.Trees.{sheet-tree}
-use Rattle.ranks.specs.Entries.{up-entry, down-entry, entry-bytes}
+use Rattle.ranks.specs.Entries.{entry-bytes}
 use Rattle.ranks.proofs.Numbers.{up-entry-below, down-entry-below}
 use Rattle.tables.specs.Promise as tables
 use Rattle.numbering.specs.Walk.{Tables, ranks, places, started, group-numbers}
-use Rattle.numbering.specs.Places.{feasible-rank, down-entry-of}
-use Rattle.numbering.specs.Promise.{Lent, TreeOf, BigCount, BadUp, BadRoot, BadDown, entry-at, Applies, of-sheet, short-counts, short-room, big-count, bad-up, bad-root, bad-down, Grouped, CallDue}
+use Rattle.numbering.specs.Places.{feasible-rank}
+use Rattle.numbering.specs.Promise.{Lent, TreeOf, BigCount, BadUp, BadRoot, BadDown, entry-at, Applies, of-sheet, short-counts, short-room, big-count, bad-up, bad-root, bad-down, CallDue}
 use Rattle.claims.specs.Build.{Taken}
 use Rattle.claims.proofs.Served.{Served, start-count, built-lawful, built-serves}
 use Rattle.claims.proofs.Chosen.{ranks-below, in-place, here, started-below, handed, feasible-below}

@@ -1,12 +1,12 @@
 -- Tables that serve a grammar: the sets hold exactly what they should, the entries are those of the sets, and there is room for all of them.
-use mathlib.Core.Path.{_≡_, refl, sym, ap, ap₂, _∙_, subst}
+use mathlib.Core.Path.{_≡_, refl, sym, ap, ap₂, _∙_}
 use mathlib.Core.List.{List, [], _∷_, _++_}
 use Prim.Native.Nat.{ℕ, suc, _+_, _*_, _≤_, _<_}
 use native.Mathlib.Omega.{arith}
 use lib.ListN.{length, getD, length-append, List·getD-append}
 use lib.Seq.{ext-getD}
 use Rattle.lists.specs.Part.{part}
-use Rattle.lists.specs.Refusals.{Said, accepted}
+use Rattle.lists.specs.Refusals.{accepted}
 use Rattle.lists.proofs.Parts.{length-part, getD-part}
 use Rattle.lists.proofs.Rising.{pinned}
 use Rattle.chains.specs.Limits.{max-members}
@@ -22,7 +22,7 @@ use Rattle.ranks.proofs.Numbers.{up-entry-below, down-entry-below}
 use Rattle.tables.specs.Sets.{Has, member, members}
 use Rattle.tables.specs.Entries.{Ranks, picked, Downward, UpTable, DownEntry, DownTable}
 use Rattle.tables.specs.Memory.{Fine}
-use Rattle.tables.specs.Promise.{Lent, up-entries, down-entries, Applies, of-book, Built, BuildDue}
+use Rattle.tables.specs.Promise.{Lent, up-entries, down-entries, Applies, of-book, BuildDue}
 use Rattle.tables.proofs.Members.{members-long}
 use Rattle.tables.proofs.Memory.{fine-placed}
 use Rattle.tables.proofs.Holds.{holds-fine}

@@ -1,9 +1,9 @@
 -- What the tables hold, worked out: the codes and labels of a production by tying its slots one after another, and a test of whole tables that computes.
-use mathlib.Core.Path.{_≡_, refl, sym, ap, _∙_, subst, subst₂}
-use mathlib.Core.Logic.{_⊎_, inl, inr, _↔_}
+use mathlib.Core.Path.{_≡_, refl, sym, ap, _∙_, subst}
+use mathlib.Core.Logic.{_↔_}
 use mathlib.Core.Bool.{Bool, true, false}
 use mathlib.Core.List.{List, [], _∷_}
-use Prim.Native.Nat.{ℕ, zero, suc, _+_, _*_, _≤_, _<_}
+use Prim.Native.Nat.{ℕ, suc, _+_, _*_, _≤_, _<_}
 use native.Mathlib.Omega.{arith}
 use borrow.Author.Tests.{ltb-true, eqb-true, le-ltb}
 use lib.Dec.{ltb, eqb}
@@ -12,18 +12,16 @@ use Rattle.lists.specs.Pick.{pick}
 use Rattle.lists.specs.Part.{part}
 use Rattle.chains.specs.Limits.{max-kids}
 use Rattle.chains.specs.Grammar.{Occ, Grammar, Lawful, slots, width}
-use Rattle.chains.specs.Chain.{Slotwise, Closure}
-use Rattle.chains.specs.Grouping.{Says, Alike, Each}
+use Rattle.chains.specs.Grouping.{Says, Alike}
 use Rattle.chains.specs.Feasible.{Chosen}
 use Rattle.chains.specs.Labels.{joins, index, add}
 use Rattle.chains.specs.State.{code-on, code-pairs}
-use Rattle.chains.proofs.Says.{members-long}
 use Rattle.chains.proofs.Step.{width-few}
 use Rattle.book.specs.Format.{prods, entry, grammar}
 use Rattle.book.proofs.Accepted.{Accepted}
 use Rattle.ranks.specs.Entries.{up-entry, down-entry, labels, entry-bytes, none}
 use Rattle.tables.specs.Sets.{member}
-use Rattle.tables.specs.Entries.{Ranks, picked, Upward, Downward, Ranked, UpTable, Labelled, DownEntry, DownTable}
+use Rattle.tables.specs.Entries.{picked, Upward, Downward, Ranked, UpTable, Labelled, DownTable}
 use Rattle.tables.specs.State.{based, tidyFrom, tidied}
 use Rattle.tables.proofs.FillState.{picked-long}
 use Rattle.tables.proofs.StateEntry.{Showing, show-base, show-skip, show-tie, show-says, show-labelled, Below, below-at, below-all, chosen-at, chosen-all}
