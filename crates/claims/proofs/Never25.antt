@@ -15,10 +15,9 @@ use Rattle.book.specs.Format.{grammar}
 use Rattle.sheet.specs.Reading.{settings-of}
 use Rattle.sheet.proofs.Refusals.{Row, books, lengths, reads, row, book-low, fault-low}
 use Rattle.sheet.proofs.Trees.{sheet-tree}
-use Rattle.ranks.specs.Entries.{entry-bytes}
 use Rattle.ranks.proofs.Numbers.{up-entry-below, down-entry-below}
 use Rattle.tables.specs.Promise as tables
-use Rattle.numbering.specs.Walk.{Tables, ranks, places, started, group-numbers}
+use Rattle.numbering.specs.Walk.{Tables, ranks, given, places, started, group-numbers}
 use Rattle.numbering.specs.Places.{feasible-rank}
 use Rattle.numbering.specs.Promise.{Lent, TreeOf, BigCount, BadUp, BadRoot, BadDown, entry-at, Applies, of-sheet, short-counts, short-room, big-count, bad-up, bad-root, bad-down, CallDue}
 use Rattle.claims.specs.Build.{Taken}
@@ -57,7 +56,7 @@ module _ {G : Grammar} (L : Lawful G) {s f : List ℕ} {T : Tables} (served : Se
         let at = here L served tree kinded told itself i q ds t .entry in
         elim bad [ inl l ↦ omega (arith, served .down-room) | inr l ↦ kid-good (l .0) (l .1) (l .2) ]
       where
-        kid-good : (j : ℕ) → j < length (G .kids q) → getD (T .feasible-counts) (getD (G .kids q) j 0) 0 ≤ getD (T .down) (entry-at G T tree i * entry-bytes + 40 + j) 255 → ⊥
+        kid-good : (j : ℕ) → j < length (G .kids q) → getD (T .feasible-counts) (getD (G .kids q) j 0) 0 ≤ given T (entry-at G T tree i) j → ⊥
         kid-good j h l =
             let below = in-place L served tree kinded told itself i q ds t .1 in
             let (m, r) = root-exists ds (suc i) j (rw (kinded-count G ds (G .kids q) below) h) in
