@@ -13,6 +13,7 @@ use Rattle.chains.proofs.Range.{root-exists}
 use Rattle.chains.proofs.WellKinded.{kinded-count}
 use Rattle.book.specs.Format.{grammar}
 use Rattle.sheet.specs.Reading.{settings-of}
+use Rattle.sheet.specs.Refusals.{SheetDue}
 use Rattle.sheet.proofs.Refusals.{Row, books, lengths, reads, row, book-low, fault-low}
 use Rattle.sheet.proofs.Trees.{sheet-tree}
 use Rattle.ranks.proofs.Numbers.{up-entry-below, down-entry-below}
@@ -69,6 +70,12 @@ sheet-row (books a) = let h = book-low a in omega arith
 sheet-row (lengths e f h) = omega arith
 sheet-row (reads ds r f) = fault-low f
 
+-- a sheet that the sheet check accepts has a tree
+tree-of : (b l checked : List ℕ) → SheetDue b l (accepted checked) → TreeOf (grammar b) l
+tree-of b l checked sound =
+    let fits = sheet-tree b l checked .0 sound .0 in
+    record { tree = fits .tree; kinded = fits .drawn .kinded; reads = fits .drawn .bytes }
+
 -- a build of the book b left m, and T has it; n₀ is lent to a call with the sheet l
 module _ {b l : List ℕ} {m₀ m : tables.Lent} {entries : List ℕ} {T : Tables} {n₀ : Lent} (build : tables.BuildDue b m₀ (accepted entries) m) (taken : Taken (grammar b) m T) where
   -- THEOREM: no row applies but those before 25
@@ -85,21 +92,25 @@ module _ {b l : List ℕ} {m₀ m : tables.Lent} {entries : List ℕ} {T : Table
   pub never-25 : {n : Lent} {number place : ℕ} → CallDue b l T n₀ (refused number place) n → number < 25
   never-25 ((t, first), e) = below-25 (first .0)
 
-  -- ── of the rows before 25 none applies ──
-  module _ (free : (n p t : ℕ) → n < 25 → Applies b l T n₀ n p t → ⊥) where
+  -- ── a sheet that the sheet check accepts, and room for what is told of it ──
+  module _ {checked : List ℕ} (sound : SheetDue b l (accepted checked)) (nodes-fit : 3 * length l ≤ length (n₀ .nodes))
+      (groups-fit : settings-of (grammar b) l ≤ length (n₀ .groups)) where
     pub no-row : (n p t : ℕ) → Applies b l T n₀ n p t → ⊥
-    no-row n p t a = free n p t (below-25 a) a
-
-    its-tree : TreeOf (grammar b) l
-    its-tree =
-        let counts = length l ∷ settings-of (grammar b) l ∷ [] in
-        let fits = sheet-tree b l counts .0 (refl, λ f a. no-row (f .0) (f .1) (f .1) (of-sheet a)) .0 in
-        record { tree = fits .tree; kinded = fits .drawn .kinded; reads = fits .drawn .bytes }
+    no-row n p t (of-sheet a) = sound .1 (n, p) a
+    no-row n p t (short-counts (inl h)) = omega (arith, taken .plausible-here)
+    no-row n p t (short-counts (inr h)) = omega (arith, taken .feasible-here)
+    no-row n p t (short-room (inl h)) = omega arith
+    no-row n p t (short-room (inr h)) = omega arith
+    no-row n p t (big-count h) = let z : 25 < 25 = below-25 (big-count h) in omega arith
+    no-row n p t (bad-up u i q ds s h) = let z : 25 < 25 = below-25 (bad-up u i q ds s h) in omega arith
+    no-row n p t (bad-root u h) = let z : 25 < 25 = below-25 (bad-root u h) in omega arith
+    no-row n p t (bad-down u i q ds s h) = let z : 25 < 25 = below-25 (bad-down u i q ds s h) in omega arith
 
     -- THEOREM: then the call is accepted
     pub accepted-with-own-tables : (counts : List ℕ) × (n : Lent) × CallDue b l T n₀ (accepted counts) n
     accepted-with-own-tables =
         let G = grammar b in
-        let f = its-tree .tree in
+        let u = tree-of b l checked sound in
+        let f = u .tree in
         let n : Lent = record { nodes = places G T f (started G T f) ++ drop (3 * length l) (n₀ .nodes); groups = group-numbers G T f .list ++ drop (settings-of G l) (n₀ .groups) } in
-        (length l ∷ settings-of G l ∷ group-numbers G T f .next ∷ [], n, (no-row, record { of = its-tree; nodes = refl; groups = refl; counted = refl }))
+        (length l ∷ settings-of G l ∷ group-numbers G T f .next ∷ [], n, (no-row, record { of = u; nodes = refl; groups = refl; counted = refl }))
