@@ -22,6 +22,7 @@ use Rattle.numbering.specs.Walk.{Tables, ranks, given, places, started, group-n
 use Rattle.numbering.specs.Places.{feasible-rank}
 use Rattle.numbering.specs.Promise.{Lent, TreeOf, BigCount, BadUp, BadRoot, BadDown, entry-at, Applies, of-sheet, short-counts, short-room, big-count, bad-up, bad-root, bad-down, CallDue}
 use Rattle.claims.specs.Build.{Taken}
+use Rattle.claims.specs.Own.{Never25}
 use Rattle.claims.proofs.Served.{Served, start-count, built-lawful, built-serves}
 use Rattle.claims.proofs.Chosen.{ranks-below, in-place, here, started-below, handed, feasible-below}
 
@@ -78,7 +79,7 @@ tree-of b l checked sound =
 
 -- a build of the book b left m, and T has it; n₀ is lent to a call with the sheet l
 module _ {b l : List ℕ} {m₀ m : tables.Lent} {entries : List ℕ} {T : Tables} {n₀ : Lent} (build : tables.BuildDue b m₀ (accepted entries) m) (taken : Taken (grammar b) m T) where
-  -- THEOREM: no row applies but those before 25
+  -- no row applies but those before 25
   pub below-25 : {n p t : ℕ} → Applies b l T n₀ n p t → n < 25
   below-25 (of-sheet a) = let h = sheet-row (row a) in omega arith
   below-25 (short-counts h) = omega arith
@@ -87,10 +88,6 @@ module _ {b l : List ℕ} {m₀ m : tables.Lent} {entries : List ℕ} {T : Table
   below-25 (bad-up u i q ds s h) = absurd (up-good (built-lawful build) (built-serves build taken) (u .tree) (u .kinded) i q ds s h)
   below-25 (bad-root u h) = absurd (root-good (built-lawful build) (built-serves build taken) (u .tree) (u .kinded) h)
   below-25 (bad-down u i q ds s h) = absurd (down-good (built-lawful build) (built-serves build taken) (u .tree) (u .kinded) i q ds s h)
-
-  -- THEOREM: whatever the call is refused with is below 25
-  pub never-25 : {n : Lent} {number place : ℕ} → CallDue b l T n₀ (refused number place) n → number < 25
-  never-25 ((t, first), e) = below-25 (first .0)
 
   -- ── a sheet that the sheet check accepts, and room for what is told of it ──
   module _ {checked : List ℕ} (sound : SheetDue b l (accepted checked)) (nodes-fit : 3 * length l ≤ length (n₀ .nodes))
@@ -106,11 +103,18 @@ module _ {b l : List ℕ} {m₀ m : tables.Lent} {entries : List ℕ} {T : Table
     no-row n p t (bad-root u h) = let z : 25 < 25 = below-25 (bad-root u h) in omega arith
     no-row n p t (bad-down u i q ds s h) = let z : 25 < 25 = below-25 (bad-down u i q ds s h) in omega arith
 
-    -- THEOREM: then the call is accepted
-    pub accepted-with-own-tables : (counts : List ℕ) × (n : Lent) × CallDue b l T n₀ (accepted counts) n
+    -- so the call is accepted
+    accepted-with-own-tables : (counts : List ℕ) × (n : Lent) × CallDue b l T n₀ (accepted counts) n
     accepted-with-own-tables =
         let G = grammar b in
         let u = tree-of b l checked sound in
         let f = u .tree in
         let n : Lent = record { nodes = places G T f (started G T f) ++ drop (3 * length l) (n₀ .nodes); groups = group-numbers G T f .list ++ drop (settings-of G l) (n₀ .groups) } in
         (length l ∷ settings-of G l ∷ group-numbers G T f .next ∷ [], n, (no-row, record { of = u; nodes = refl; groups = refl; counted = refl }))
+
+  -- THEOREM: by what a build of its own book left a sheet call is never refused with 25, and what the sheet check accepts it groups
+  pub never-25 : Never25 b l T n₀
+  never-25 = record {
+    refused-below = λ n number place ((t, first), e). below-25 (first .0);
+    accepts = λ checked sound nodes-fit groups-fit. accepted-with-own-tables sound nodes-fit groups-fit;
+  }

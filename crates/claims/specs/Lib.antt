@@ -2,6 +2,7 @@
 pub mod Sets
 pub mod Build
 pub mod Groups
+pub mod Own
 pub mod Replaced
 pub mod Examples
 pub mod Once
