@@ -4,7 +4,7 @@ use mathlib.Core.Bool.{Bool, true, false}
 use mathlib.Core.List.{List, [], _∷_}
 use Prim.Native.Nat.{ℕ}
 use lib.ListN.{length}
-use Rattle.lists.specs.Refusals.{accepted, refused}
+use Rattle.lists.specs.Refusals.{Said, accepted, refused}
 use Rattle.book.specs.Format.{grammar}
 use Rattle.book.specs.Reading.{Index}
 use Rattle.book.specs.Search.{Tells}
@@ -40,16 +40,20 @@ module _ {b l : List ℕ} {T : Tables} {m : Lent} (clear : Clear b l T m) where
   pub clear-index : {places : List ℕ} → Index b places → Indexed b places
   clear-index i = record { accepted = clear-book; index = i }
 
+-- one answer, said twice
+due-said : (b l : List ℕ) (T : Tables) (m m′ : Lent) {s s′ : Said} → s ≡ s′ → CallDue b l T m s′ m′ → CallDue b l T m s m′
+due-said b l T m m′ e = subst (λ (x : Said). CallDue b l T m x m′) (sym e)
+
 module _ {b l c d u w : List ℕ} {m : Lent} (clear : Clear b l (tables c d u w) m) {r : Bool} (tells : Tells (BigCount (grammar b) (tables c d [] [])) r) where
-  pub settled-big : r ≡ true → CallDue b l (tables c d u w) m (refused 25 0) m
-  settled-big e = (refuses-big clear (tells .holds e), refl)
+  pub settled-big : r ≡ true → {s : Said} → s ≡ refused 25 0 → CallDue b l (tables c d u w) m s m
+  settled-big e es = due-said b l (tables c d u w) m m es (refuses-big clear (tells .holds e), refl)
 
   module _ (small : r ≡ false) {plausible ends feasible entries : List ℕ} {o : Reads} (choice : Choice b l c d u w plausible ends feasible entries o) where
-    pub settled-bad : {p : ℕ} → o ≡ Bad p → CallDue b l (tables c d u w) m (refused 25 p) m
-    settled-bad {p} e =
+    pub settled-bad : {p : ℕ} → o ≡ Bad p → {s : Said} → s ≡ refused 25 p → CallDue b l (tables c d u w) m s m
+    settled-bad {p} e es =
         let t = tree-of (clear .fits) in
         let (turn, bad, first) = subst (ChoiceIs (grammar b) (tables c d u w) (t .tree) plausible ends feasible entries) e (choice .case t) in
-        (refuses-read clear (tells .fails small) t p turn bad first, refl)
+        due-said b l (tables c d u w) m m es (refuses-read clear (tells .fails small) t p turn bad first, refl)
 
     pub settled-walkable : o ≡ All → Walkable b l w ends entries
     settled-walkable e =
@@ -62,9 +66,9 @@ pub settled-well : {b l c d u w n g : List ℕ} → Clear b l (tables c d u w) (
     → {plausible ends feasible entries : List ℕ} {o : Reads} → Choice b l c d u w plausible ends feasible entries o → o ≡ All
     → {count settings : ℕ} → count ≡ length l → settings ≡ settings-of (grammar b) l
     → {n′ g′ : List ℕ} {used : ℕ} → Filled b l w plausible ends feasible entries n g n′ g′ used
-    → CallDue b l (tables c d u w) (lent n g) (accepted (count ∷ settings ∷ used ∷ [])) (lent n′ g′)
-settled-well {b} {l} {c} {d} {u} {w} {n} {g} clear tells small {plausible} {ends} {feasible} {entries} choice e en es {n′} {g′} {used} filled =
+    → {s : Said} → s ≡ accepted (count ∷ settings ∷ used ∷ []) → CallDue b l (tables c d u w) (lent n g) s (lent n′ g′)
+settled-well {b} {l} {c} {d} {u} {w} {n} {g} clear tells small {plausible} {ends} {feasible} {entries} choice e en es {n′} {g′} {used} filled said =
     let t = tree-of (clear .fits) in
     let (none, chosen) = subst (ChoiceIs (grammar b) (tables c d u w) (t .tree) plausible ends feasible entries) e (choice .case t) in
     let counts = ap₂ (λ (x y : ℕ). x ∷ y ∷ used ∷ []) en es in
-    (nothing-applies clear (tells .fails small) t none, subst (Grouped (grammar b) l (tables c d u w) (lent n g) (lent n′ g′)) (sym counts) (filled .all t c d u chosen))
+    due-said b l (tables c d u w) (lent n g) (lent n′ g′) said (nothing-applies clear (tells .fails small) t none, subst (Grouped (grammar b) l (tables c d u w) (lent n g) (lent n′ g′)) (sym counts) (filled .all t c d u chosen))
