@@ -26,13 +26,13 @@ returns : tie.Need-returns
 returns c = kept-out (tables (c .before .before .before .before .before .before .before .before .before .before .before .before .args .plausible-counts .now) (c .before .before .before .before .before .before .before .before .before .before .before .before .args .feasible-counts .now) (c .before .before .before .before .before .before .before .before .before .before .before .before .args .up .now) (c .before .before .before .before .before .before .before .before .before .before .before .before .args .down .now)) (lent (c .before .before .before .before .before .before .before .before .before .before .before .before .args .nodes .now) (c .before .before .before .before .before .before .before .before .before .before .before .before .args .groups .now)) (c .before .before .before .admit .ensures) (c .before .number .given .1)
 
 same-length : tie.Need-same-length
-same-length c = search needs
+same-length c = c .before .before .before .nodes .given
 
 same-length-2 : tie.Need-same-length-2
-same-length-2 c = search needs
+same-length-2 c = c .before .groups .given
 
 returns-2 : tie.Need-returns-2
-returns-2 c = search needs
+returns-2 c = c .before .before .before .before .settle .ensures
 
 pub group-sheet-spec : {M : Type 1} → statement M
 group-sheet-spec =
