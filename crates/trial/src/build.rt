@@ -1,8 +1,6 @@
 // The build, on memory as the request lends it.
-use crate::numbers::copy8;
-use crate::numbers::copy32;
-use crate::numbers::first8;
-use crate::numbers::first32;
+use crate::numbers::lent8;
+use crate::numbers::lent32;
 use crate::print;
 use crate::request::argument;
 use crate::request::bytes;
@@ -50,20 +48,14 @@ fn lend(
     let mut fc = [0u8; room::COUNTS];
     let mut u = [0u8; room::UP];
     let mut d = [0u8; room::DOWN];
-    copy32(plausible, &mut p);
-    copy8(plausible_counts, &mut pc);
-    copy32(feasible, &mut f);
-    copy8(feasible_counts, &mut fc);
-    copy8(up, &mut u);
-    copy8(down, &mut d);
     show(
         book,
-        first32(&mut p, plausible.len() / 4),
-        first8(&mut pc, plausible_counts.len()),
-        first32(&mut f, feasible.len() / 4),
-        first8(&mut fc, feasible_counts.len()),
-        first8(&mut u, up.len()),
-        first8(&mut d, down.len()),
+        lent32(plausible, &mut p),
+        lent8(plausible_counts, &mut pc),
+        lent32(feasible, &mut f),
+        lent8(feasible_counts, &mut fc),
+        lent8(up, &mut u),
+        lent8(down, &mut d),
         out,
     )
 }

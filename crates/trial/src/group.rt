@@ -1,8 +1,6 @@
 // The sheet call, on anyone's tables and on memory as the request lends it.
-use crate::numbers::copy16;
-use crate::numbers::copy64;
-use crate::numbers::first16;
-use crate::numbers::first64;
+use crate::numbers::lent16;
+use crate::numbers::lent64;
 use crate::print;
 use crate::request::argument;
 use crate::request::bytes;
@@ -49,8 +47,6 @@ fn lend(
 ) -> usize {
     let mut n = [0u64; room::NODES];
     let mut g = [0u16; room::GROUPS];
-    copy64(nodes, &mut n);
-    copy16(groups, &mut g);
     show(
         book,
         sheet,
@@ -58,8 +54,8 @@ fn lend(
         feasible_counts,
         up,
         down,
-        first64(&mut n, nodes.len() / 8),
-        first16(&mut g, groups.len() / 2),
+        lent64(nodes, &mut n),
+        lent16(groups, &mut g),
         out,
     )
 }

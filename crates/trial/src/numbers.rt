@@ -50,7 +50,7 @@ pub fn least(a: usize, b: usize) -> usize
 }
 
 // Each copy takes as many numbers as there are and have room.
-pub fn copy8(s: &[u8], to: &mut [u8])
+fn copy8(s: &[u8], to: &mut [u8])
     ensures { λ _. ⌜ Copied one-at 1 (now (s .entry)) (now (to .entry)) (min (length (now (s .entry))) (length (now (to .entry)))) (now (to .exit)) ⌝ }
 {
     let n = least(s.len(), to.len());
@@ -61,7 +61,7 @@ pub fn copy8(s: &[u8], to: &mut [u8])
     }
 }
 
-pub fn copy16(s: &[u8], to: &mut [u16])
+fn copy16(s: &[u8], to: &mut [u16])
     ensures { λ _. ⌜ Copied two-at 2 (now (s .entry)) (now (to .entry)) (many 2 (now (s .entry)) (now (to .entry))) (now (to .exit)) ⌝ }
 {
     let n = least(s.len() / 2, to.len());
@@ -72,7 +72,7 @@ pub fn copy16(s: &[u8], to: &mut [u16])
     }
 }
 
-pub fn copy32(s: &[u8], to: &mut [u32])
+fn copy32(s: &[u8], to: &mut [u32])
     ensures { λ _. ⌜ Copied four-at 4 (now (s .entry)) (now (to .entry)) (many 4 (now (s .entry)) (now (to .entry))) (now (to .exit)) ⌝ }
 {
     let n = least(s.len() / 4, to.len());
@@ -83,7 +83,7 @@ pub fn copy32(s: &[u8], to: &mut [u32])
     }
 }
 
-pub fn copy64(s: &[u8], to: &mut [u64])
+fn copy64(s: &[u8], to: &mut [u64])
     ensures { λ _. ⌜ Copied eight-at 8 (now (s .entry)) (now (to .entry)) (many 8 (now (s .entry)) (now (to .entry))) (now (to .exit)) ⌝ }
 {
     let n = least(s.len() / 8, to.len());
@@ -94,23 +94,27 @@ pub fn copy64(s: &[u8], to: &mut [u64])
     }
 }
 
-// The first elements of an array, as many as there is room for.
-pub fn first8(s: &mut [u8], n: usize) -> &mut [u8] {
-    let k = least(n, s.len());
-    &mut s[0..k]
+// A part of a request as the memory that is lent to a call: as many elements as it has and there is room for.
+pub fn lent8<'a>(s: &[u8], room: &'a mut [u8]) -> &'a mut [u8] {
+    copy8(s, room);
+    let n = least(s.len(), room.len());
+    &mut room[0..n]
 }
 
-pub fn first32(s: &mut [u32], n: usize) -> &mut [u32] {
-    let k = least(n, s.len());
-    &mut s[0..k]
+pub fn lent16<'a>(s: &[u8], room: &'a mut [u16]) -> &'a mut [u16] {
+    copy16(s, room);
+    let n = least(s.len() / 2, room.len());
+    &mut room[0..n]
 }
 
-pub fn first16(s: &mut [u16], n: usize) -> &mut [u16] {
-    let k = least(n, s.len());
-    &mut s[0..k]
+pub fn lent32<'a>(s: &[u8], room: &'a mut [u32]) -> &'a mut [u32] {
+    copy32(s, room);
+    let n = least(s.len() / 4, room.len());
+    &mut room[0..n]
 }
 
-pub fn first64(s: &mut [u64], n: usize) -> &mut [u64] {
-    let k = least(n, s.len());
-    &mut s[0..k]
+pub fn lent64<'a>(s: &[u8], room: &'a mut [u64]) -> &'a mut [u64] {
+    copy64(s, room);
+    let n = least(s.len() / 8, room.len());
+    &mut room[0..n]
 }

@@ -24,11 +24,15 @@ pub fn close(out: &mut [u8], held: usize) {
     text::flush(STDOUT_FILENO, out, h);
 }
 
+// A word, and numbers behind it.
+fn said(out: &mut [u8], w: &[u8], numbers: &[u64]) -> usize {
+    let h = text::word(STDOUT_FILENO, out, 0, w);
+    let h = text::word(STDOUT_FILENO, out, h, b" ");
+    line64(out, h, numbers)
+}
+
 pub fn refused(out: &mut [u8], number: u8, place: u16) -> usize {
-    let h = text::word(STDOUT_FILENO, out, 0, b"refused");
-    let h = next_number(out, h, number as u64);
-    let h = next_number(out, h, place as u64);
-    line_end(out, h)
+    said(out, b"refused", &[number as u64, place as u64])
 }
 
 pub fn malformed(out: &mut [u8]) -> usize {
@@ -37,27 +41,17 @@ pub fn malformed(out: &mut [u8]) -> usize {
 
 // An accepted call's two counts.
 pub fn pair(out: &mut [u8], a: u64, b: u64) -> usize {
-    let h = text::word(STDOUT_FILENO, out, 0, b"ok");
-    let h = next_number(out, h, a);
-    let h = next_number(out, h, b);
-    line_end(out, h)
+    said(out, b"ok", &[a, b])
 }
 
 // An accepted sheet call's three.
 pub fn triple(out: &mut [u8], a: u16, b: u16, c: u16) -> usize {
-    let h = text::word(STDOUT_FILENO, out, 0, b"ok");
-    let h = next_number(out, h, a as u64);
-    let h = next_number(out, h, b as u64);
-    let h = next_number(out, h, c as u64);
-    line_end(out, h)
+    said(out, b"ok", &[a as u64, b as u64, c as u64])
 }
 
 // A block: the set, its size, its first.
 pub fn block(out: &mut [u8], set: u64, size: u32, first: u32) -> usize {
-    let h = number(out, 0, set);
-    let h = next_number(out, h, size as u64);
-    let h = next_number(out, h, first as u64);
-    line_end(out, h)
+    line64(out, 0, &[set, size as u64, first as u64])
 }
 
 // An element of a line: all but the first after a blank.
