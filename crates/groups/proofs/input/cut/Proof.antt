@@ -7,10 +7,10 @@ use Rattle.groups.proofs.input.cut.Statement.{statement}
 use Rattle.groups.proofs.input.cut.Tie as tie
 
 returns : tie.Need-returns
-returns c = refused (long (c .if1 .taken))
+returns c = refused (long (omega arith))
 
 returns-2 : tie.Need-returns-2
-returns-2 c = refused (lengthless (c .if2 .taken))
+returns-2 c = refused (lengthless (omega arith))
 
 shared-slice-read-wide : tie.Need-shared-slice-read-wide
 shared-slice-read-wide c = search needs

@@ -61,13 +61,13 @@ broken-requires-6 : tie.Need-broken-requires-6
 broken-requires-6 c κs = search needs
 
 returns-6 : tie.Need-returns-6
-returns-6 c = over (c .before .before .before .before .four .ensures) (c .broken6 .ensures) (c .before .before .before .before .before .before .before .before .before .before .pre) (c .before .if6 .taken)
+returns-6 c = over (c .before .before .before .before .four .ensures) (c .broken6 .ensures) (c .before .before .before .before .before .before .before .before .before .before .pre) (omega arith)
 
 add-t9 : tie.Need-add-t9
 add-t9 c = search needs
 
 returns-7 : tie.Need-returns-7
-returns-7 c = found (c .before .before .before .four .ensures) (not-false _ (c .before .before .before .before .before .before .if1 .left)) refl refl refl (omega arith) (c .before .if5 .left) (c .if6 .left)
+returns-7 c = found (c .before .before .before .four .ensures) (not-false _ (c .before .before .before .before .before .before .if1 .left)) refl refl refl (omega arith) (c .before .if5 .left) (omega arith)
 
 pub argument-spec : {M : Type 1} → statement M
 argument-spec =
