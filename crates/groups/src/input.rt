@@ -1,5 +1,5 @@
 // The input taken apart: where the sheet ends and the book begins.
-ghost use Prim.Native.Nat.{_+_, _*_, _<_};
+ghost use Prim.Native.Nat.{_<_};
 ghost use mathlib.Core.Path.{_≡_};
 ghost use Rattle.groups.specs.Input.{Cuts};
 

@@ -1,6 +1,5 @@
 // What the program prints: a refusal, or a line of totals and a line for each node.
-ghost use Prim.Native.Nat.{_+_, _<_, _≤_};
-ghost use mathlib.Core.Path.{_≡_};
+ghost use Prim.Native.Nat.{_<_, _≤_};
 ghost use lib.ListN.{length};
 use book::limits::MAX_PRODUCTIONS;
 use libc::STDOUT_FILENO;

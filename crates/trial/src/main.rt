@@ -9,7 +9,6 @@ mod request;
 mod room;
 
 ghost use Prim.Native.Nat.{_≤_};
-ghost use mathlib.Core.Path.{_≡_};
 use libc::STDIN_FILENO;
 
 fn main() {

@@ -1,5 +1,5 @@
 // Numbers in bytes, the lowest first, and parts of a request as arrays of them.
-ghost use Prim.Native.Nat.{_+_, _*_, _/_, _<_, _≤_, min};
+ghost use Prim.Native.Nat.{_+_, _<_, _≤_, min};
 ghost use mathlib.Core.Path.{_≡_};
 ghost use lib.ListN.{length};
 ghost use Rattle.trial.specs.Numbers.{one as one-at, two as two-at, four as four-at, eight as eight-at, Copied, many};
