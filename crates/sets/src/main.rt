@@ -127,7 +127,7 @@ fn lend(
             up: ups,
             down: downs,
         } => {
-            answered(name, b": accepted", ups, downs);
+            answered(name, b": accepted, up and down entries", ups, downs);
             accepted(
                 name,
                 letters,
@@ -225,18 +225,20 @@ fn limits() {
     trial(b"65 feasible", b"", &FEASIBLE_65, ample());
 }
 
-// Exactly the room that is needed, and one entry less; a byte less is an entry less.
+// Exactly the room that is needed, and one entry less; a byte less is an entry less, and 43 bytes more are none.
 fn rooms() {
     trial(b"exact room", b"", &FIG1, exact());
-    let mut room = exact();
+    let mut room = ample();
     room.up = 8;
     trial(b"an up entry less", b"", &FIG1, room);
-    room = exact();
+    room = ample();
     room.down = 1012;
     trial(b"a down entry less", b"", &FIG1, room);
     room = exact();
     room.down = 1055;
     trial(b"a byte less", b"", &FIG1, room);
+    room.down = 1099;
+    trial(b"43 bytes more", b"", &FIG1, room);
     room = exact();
     room.up = 1;
     room.down = 0;
