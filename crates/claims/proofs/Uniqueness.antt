@@ -5,8 +5,8 @@ use Rattle.book.proofs.Places.{index-once}
 use Rattle.sheet.proofs.Once as sheet
 use Rattle.service.proofs.Word.{book-word-once, sheet-word-once}
 use Rattle.ranks.proofs.Finds.{read-up-once, read-down-once, child-rank-once, started-once}
-use Rattle.tables.proofs.Carried.{occurrences-once}
-use Rattle.tables.proofs.SetMembers.{block-size-once, first-occurrence-once}
+use Rattle.blocks.proofs.Carried.{occurrences-once}
+use Rattle.blocks.proofs.SetMembers.{block-size-once, first-occurrence-once}
 use Rattle.tables.proofs.Promise.{build-once}
 use Rattle.claims.specs.Once.{OneOutcome}
 use Rattle.claims.proofs.CallOnce.{call-once}

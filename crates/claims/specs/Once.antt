@@ -16,7 +16,7 @@ use Rattle.ranks.specs.declared.Feasible.{Feasible}
 use Rattle.ranks.specs.declared.UpRead.{UpRead}
 use Rattle.ranks.specs.declared.DownRead.{DownRead}
 use Rattle.ranks.specs.Reads.{up-said, down-said, UpFinds, DownFinds, child-rank-at}
-use Rattle.tables.specs.Blocks.{Block, Size, FirstIn}
+use Rattle.blocks.specs.Blocks.{Block, Size, FirstIn}
 use Rattle.tables.specs.Promise as tables
 use Rattle.numbering.specs.Walk.{Tables}
 use Rattle.numbering.specs.Promise as numbering

@@ -15,8 +15,8 @@ use Rattle.lists.specs.Rising.{Rising, none, single, step}
 use Rattle.lists.specs.Sought.{Free, Least}
 use Rattle.lists.proofs.Rising.{rising-once}
 use Rattle.lists.proofs.Sought.{least-once, least-not-free}
-use Rattle.tables.specs.Blocks.{set-bits, In, Size, FirstIn}
-use Rattle.tables.proofs.BitSets.{bit-first, bit-later, bit-past}
+use Rattle.blocks.specs.Blocks.{set-bits, In, Size, FirstIn}
+use Rattle.blocks.proofs.BitSets.{bit-first, bit-later, bit-past}
 
 -- ── members ──
 -- those of the lowest n bits of s, the lowest of which stands for k

@@ -9,7 +9,7 @@ use native.Mathlib.Omega.{arith}
 use lib.Bits.{bitOr, or-shifted-r, block-half, block-odd}
 use lib.Pow.{shl-exact}
 use Rattle.ranks.proofs.Digits.{digit-below}
-use Rattle.tables.specs.Blocks.{set-bits, In}
+use Rattle.blocks.specs.Blocks.{set-bits, In}
 
 -- ── bits ──
 pub bit-first : (s : ℕ) → s / 2 ^ 0 % 2 ≡ s % 2

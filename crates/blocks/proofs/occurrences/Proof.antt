@@ -5,10 +5,10 @@ use native.Mathlib.Omega.{arith}
 use borrow.Author.Needs.{needs}
 use Rattle.ranks.specs.Entries.{labels}
 use Rattle.ranks.specs.Reads.{label-at}
-use Rattle.tables.proofs.BitSets.{Marked, marked-none, marked-more}
-use Rattle.tables.proofs.Carried.{block-empty, block-full}
-use Rattle.tables.proofs.blocks.occurrences.Statement.{statement}
-use Rattle.tables.proofs.blocks.occurrences.Tie as tie
+use Rattle.blocks.proofs.BitSets.{Marked, marked-none, marked-more}
+use Rattle.blocks.proofs.Carried.{block-empty, block-full}
+use Rattle.blocks.proofs.occurrences.Statement.{statement}
+use Rattle.blocks.proofs.occurrences.Tie as tie
 
 abbrev Inv-loop : tie.InvT-loop
 Inv-loop down entry label set₀ o₀ set o = (o ≤ labels) × Marked (λ i. label-at down entry i ≡ label) o set

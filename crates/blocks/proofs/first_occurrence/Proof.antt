@@ -1,7 +1,7 @@
 -- The zeros below a set's lowest one are the numbers before its first.
-use Rattle.tables.proofs.SetMembers.{first-is}
-use Rattle.tables.proofs.blocks.first_occurrence.Statement.{statement}
-use Rattle.tables.proofs.blocks.first_occurrence.Tie as tie
+use Rattle.blocks.proofs.SetMembers.{first-is}
+use Rattle.blocks.proofs.first_occurrence.Statement.{statement}
+use Rattle.blocks.proofs.first_occurrence.Tie as tie
 
 returns : tie.Need-returns
 returns c = first-is (c .args .set)

@@ -2,7 +2,7 @@
 ghost use mathlib.Core.Path.{_≡_};
 ghost use mathlib.Core.Logic.{_↔_};
 ghost use Prim.Native.Nat.{_<_};
-ghost use Rattle.tables.specs.Blocks.{Block, Size, FirstIn};
+ghost use Rattle.blocks.specs.Blocks.{Block, Size, FirstIn};
 use ranks::ENTRY;
 use ranks::LABELS;
 use ranks::NONE;

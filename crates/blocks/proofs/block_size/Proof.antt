@@ -1,8 +1,8 @@
 -- The ones of a set of 64 bits are those in it.
 use borrow.Author.Needs.{needs}
-use Rattle.tables.proofs.SetMembers.{size-is}
-use Rattle.tables.proofs.blocks.block_size.Statement.{statement}
-use Rattle.tables.proofs.blocks.block_size.Tie as tie
+use Rattle.blocks.proofs.SetMembers.{size-is}
+use Rattle.blocks.proofs.block_size.Statement.{statement}
+use Rattle.blocks.proofs.block_size.Tie as tie
 
 returns : tie.Need-returns
 returns c = size-is (c .args .set) (search needs)

@@ -9,8 +9,8 @@ use Rattle.lists.specs.Rising.{Rising}
 use Rattle.lists.specs.Sought.{Free, Least}
 use Rattle.ranks.specs.Entries.{labels, entry-bytes, none}
 use Rattle.ranks.specs.Reads.{label-at}
-use Rattle.tables.specs.Blocks.{set-bits, In, Carries, Block, Size, FirstIn}
-use Rattle.tables.proofs.BitSets.{set-once, Marked, marked-in, bit-past}
+use Rattle.blocks.specs.Blocks.{set-bits, In, Carries, Block, Size, FirstIn}
+use Rattle.blocks.proofs.BitSets.{set-once, Marked, marked-in, bit-past}
 
 module _ {down : List ℕ} {e x : ℕ} where
   -- the empty set, where no occurrence carries the label
