@@ -13,7 +13,7 @@ use Rattle.chains.specs.Tree.{Bush, size, count, flat, Kinded, Root, Sub}
 use Rattle.chains.proofs.Range.{root-exists}
 use Rattle.chains.proofs.WellKinded.{kinded-count}
 use Rattle.book.specs.Format.{grammar}
-use Rattle.book.specs.Refusals as book
+use Rattle.bookcheck.specs.Refusals as book
 use Rattle.sheet.specs.Reading.{settings-of}
 use Rattle.sheet.specs.Refusals as sheet
 use Rattle.sheet.proofs.Trees.{sheet-tree}
