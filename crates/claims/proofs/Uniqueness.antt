@@ -1,6 +1,6 @@
 -- UNIQUENESS, gathered: each call's theorem stands beside its promise.
 use mathlib.Core.Path.{_≡_, sym, _∙_}
-use Rattle.book.proofs.Once as book
+use Rattle.bookcheck.proofs.Once as book
 use Rattle.book.proofs.Places.{index-once}
 use Rattle.sheet.proofs.Once as sheet
 use Rattle.service.proofs.Word.{book-word-once, sheet-word-once}

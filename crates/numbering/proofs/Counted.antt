@@ -10,9 +10,9 @@ use lib.ListN.{getD}
 use Rattle.chains.specs.Limits.{max-members}
 use Rattle.book.specs.Format.{kinds, grammar}
 use Rattle.book.specs.Reading.{told}
-use Rattle.book.specs.Search.{Tells}
-use Rattle.book.proofs.Accepted.{Accepted, told-kinds}
-use Rattle.book.proofs.Answers.{tells-yes, tells-no}
+use Rattle.bookcheck.specs.Search.{Tells}
+use Rattle.bookcheck.proofs.Accepted.{Accepted, told-kinds}
+use Rattle.bookcheck.proofs.Answers.{tells-yes, tells-no}
 use Rattle.numbering.specs.Walk.{tables}
 use Rattle.numbering.specs.Promise.{BigCount}
 

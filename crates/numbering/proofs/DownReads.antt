@@ -17,7 +17,7 @@ use Rattle.chains.proofs.Range.{root-in}
 use Rattle.chains.proofs.Nodes.{sub-in, parent}
 use Rattle.chains.proofs.WellKinded.{sub-kinded, root-kids, one-tree}
 use Rattle.book.specs.Format.{grammar, prods}
-use Rattle.book.proofs.Accepted.{Accepted}
+use Rattle.bookcheck.proofs.Accepted.{Accepted}
 use Rattle.ranks.specs.Entries.{down-start, down-entry, labels, entry-bytes, none}
 use Rattle.ranks.specs.Reads.{Found, found, past, down-number, DownFinds, down-said, child-rank-at}
 use Rattle.ranks.specs.declared.DownRead.{DownRead}

@@ -15,7 +15,7 @@ use Rattle.chains.specs.Grammar.{Grammar}
 use Rattle.book.specs.Format.{grammar, prods, kinds}
 use Rattle.book.specs.Reading as book
 use Rattle.book.specs.Reading.{kid-at}
-use Rattle.book.proofs.Accepted.{Accepted, settings-read}
+use Rattle.bookcheck.proofs.Accepted.{Accepted, settings-read}
 use Rattle.sheet.specs.Reading.{settings-of}
 use Rattle.numbering.specs.Walk.{Tables, tables, Held, held, numbered, unused, slot-labels, kid-labels}
 use Rattle.numbering.specs.Parts.{child-at, Children}

@@ -11,9 +11,9 @@ use lib.ListN.{length}
 use Rattle.lists.specs.Refusals.{accepted, refused, First}
 use Rattle.book.specs.Format.{kinds, grammar}
 use Rattle.book.specs.Reading.{told}
-use Rattle.book.specs.Search.{Tells}
-use Rattle.book.proofs.Accepted.{Accepted, told-kinds}
-use Rattle.book.proofs.Answers.{tells-yes, tells-lt}
+use Rattle.bookcheck.specs.Search.{Tells}
+use Rattle.bookcheck.proofs.Accepted.{Accepted, told-kinds}
+use Rattle.bookcheck.proofs.Answers.{tells-yes, tells-lt}
 use Rattle.sheet.specs.Reading.{settings-of}
 use Rattle.sheet.specs.Refusals as sheet
 use Rattle.sheet.specs.Answer as sheet-answer

@@ -7,8 +7,8 @@ use lib.ListN.{length}
 use Rattle.lists.specs.Refusals.{Said, accepted, refused}
 use Rattle.book.specs.Format.{grammar}
 use Rattle.book.specs.Reading.{Index}
-use Rattle.book.specs.Search.{Tells}
-use Rattle.book.proofs.Accepted.{Accepted}
+use Rattle.bookcheck.specs.Search.{Tells}
+use Rattle.bookcheck.proofs.Accepted.{Accepted}
 use Rattle.sheet.specs.Reading.{settings-of}
 use Rattle.sheet.proofs.Accepted.{book-accepted}
 use Rattle.numbering.specs.Walk.{Tables, tables}

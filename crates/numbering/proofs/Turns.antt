@@ -13,7 +13,7 @@ use Rattle.lists.specs.Refusals.{Sooner}
 use Rattle.chains.specs.Tree.{Bush, Sub}
 use Rattle.chains.proofs.Nodes.{sub-in}
 use Rattle.book.specs.Format.{kinds, grammar}
-use Rattle.book.specs.Refusals as book
+use Rattle.bookcheck.specs.Refusals as book
 use Rattle.sheet.specs.Reading.{settings-of}
 use Rattle.sheet.specs.Refusals as sheet
 use Rattle.numbering.specs.Walk.{Tables}

@@ -11,7 +11,7 @@ use Rattle.chains.specs.Limits.{max-kids, max-nodes}
 use Rattle.chains.specs.Tree.{Bush, size, Kinded, Sub}
 use Rattle.chains.proofs.Nodes.{sub-in, sub-one}
 use Rattle.book.specs.Format.{grammar, prods}
-use Rattle.book.proofs.Accepted.{Accepted}
+use Rattle.bookcheck.proofs.Accepted.{Accepted}
 use Rattle.ranks.specs.Entries.{up-start, up-entry, none}
 use Rattle.ranks.specs.Reads.{Found, found, past, up-number, UpFinds, up-said}
 use Rattle.ranks.specs.declared.Plausible.{Plausible}

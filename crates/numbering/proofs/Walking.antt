@@ -18,7 +18,7 @@ use Rattle.chains.proofs.Range.{root-in}
 use Rattle.chains.proofs.Nodes.{parent, sub-in, sub-child}
 use Rattle.chains.proofs.WellKinded.{sub-kinded, root-kids, root-kind, one-tree}
 use Rattle.book.specs.Format.{grammar, prods}
-use Rattle.book.proofs.Accepted.{Accepted}
+use Rattle.bookcheck.proofs.Accepted.{Accepted}
 use Rattle.sheet.specs.Reading.{settings-of}
 use Rattle.sheet.proofs.Reading.{settings-next}
 use Rattle.numbering.specs.Walk.{Tables, tables, numbered, unused, slot-labels, kid-labels, own-held, root-labels, group-numbers}

@@ -3,7 +3,7 @@ ghost use mathlib.Core.Logic.{_⊎_};
 ghost use mathlib.Core.List.{[], _∷_};
 ghost use Prim.Native.Nat.{_<_};
 ghost use Rattle.book.specs.Reading.{told};
-ghost use Rattle.book.specs.Search.{Tells};
+ghost use Rattle.bookcheck.specs.Search.{Tells};
 ghost use Rattle.lists.specs.Refusals.{accepted};
 ghost use Rattle.sheet.specs.Refusals.{SheetDue};
 ghost use Rattle.numbering.specs.Admitting.{Admits};

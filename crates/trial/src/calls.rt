@@ -9,7 +9,7 @@ use crate::request::ends;
 use crate::request::exactly;
 use crate::request::opening;
 use crate::room;
-use book::Checked;
+use bookcheck::Checked;
 use sheet::SheetChecked;
 
 pub fn reply(request: &[u8], out: &mut [u8]) -> usize {
@@ -31,7 +31,7 @@ fn check_book(request: &[u8], out: &mut [u8]) -> usize {
     if !ends(request, book) {
         return print::malformed(out);
     }
-    match book::check_book(bytes(request, book)) {
+    match bookcheck::check_book(bytes(request, book)) {
         Checked::Accepted { kinds, productions } => print::pair(
             out,
             kinds as u64,
@@ -79,11 +79,11 @@ fn block_of(down: &[u8], entry: &[u8], label: &[u8], out: &mut [u8]) -> usize {
     if label.len() < 1 {
         return print::malformed(out);
     }
-    let set = tables::occurrences(down, eight(entry, 0), label[0]);
+    let set = blocks::occurrences(down, eight(entry, 0), label[0]);
     print::block(
         out,
         set,
-        tables::block_size(set),
-        tables::first_occurrence(set),
+        blocks::block_size(set),
+        blocks::first_occurrence(set),
     )
 }

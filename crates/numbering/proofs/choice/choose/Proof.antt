@@ -2,7 +2,7 @@
 use mathlib.Core.Path.{_∙_}
 use mathlib.Core.List.{[]}
 use lib.ListN.{length-set}
-use Rattle.book.proofs.Accepted.{told-start}
+use Rattle.bookcheck.proofs.Accepted.{told-start}
 use Rattle.numbering.proofs.Choosing.{start-inside, choice-up, choice-ended, choice-root, choice-down}
 use borrow.Author.Needs.{needs}
 use Rattle.numbering.proofs.choice.choose.Statement.{statement}

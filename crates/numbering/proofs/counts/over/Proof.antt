@@ -2,7 +2,7 @@
 use Prim.Native.Nat.{_-_}
 use native.Mathlib.Omega.{arith}
 use borrow.Author.Needs.{needs}
-use Rattle.book.proofs.Answers.{tells-yes}
+use Rattle.bookcheck.proofs.Answers.{tells-yes}
 use Rattle.numbering.proofs.Counted.{Low, low-none, low-next, low-all}
 use Rattle.numbering.proofs.counts.over.Statement.{statement}
 use Rattle.numbering.proofs.counts.over.Tie as tie

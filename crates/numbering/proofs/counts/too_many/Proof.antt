@@ -1,7 +1,7 @@
 -- First the one slice, then the other.
 use mathlib.Core.Path.{_∙_}
 use native.Mathlib.Omega.{arith}
-use Rattle.book.proofs.Accepted.{told-kinds}
+use Rattle.bookcheck.proofs.Accepted.{told-kinds}
 use Rattle.numbering.proofs.Counted.{many-plausible, many-feasible}
 use borrow.Author.Needs.{needs}
 use Rattle.numbering.proofs.counts.too_many.Statement.{statement}
