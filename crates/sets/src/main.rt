@@ -207,76 +207,81 @@ fn end(downs: u64) -> usize {
 }
 
 fn main() {
-    trial(b"Fig. 1", b"SXY", &FIG1, ample());
+    whole(&FIG1, &BARREN);
+    limits(&PLAUSIBLE_65, &FEASIBLE_65);
+    rooms(&FIG1, &BARREN);
+    short_slices(&FIG1);
+    orders(&FIG1, &PLAUSIBLE_65, &FEASIBLE_65);
+    damaged();
+}
+
+// Every set and every entry.
+fn whole(fig1: &[u8], barren: &[u8]) {
+    trial(b"Fig. 1", b"SXY", fig1, ample());
     trial(b"unlike children", b"SAB", &UNLIKE, ample());
     trial(b"eight settings", b"S", &EIGHT, ample());
-    trial(b"no tree", b"SAB", &BARREN, ample());
-    limits();
-    rooms();
-    short_slices();
-    orders();
+    trial(b"no tree", b"SAB", barren, ample());
 }
 
 // 64 members, and one more.
-fn limits() {
+fn limits(plausible: &[u8], feasible: &[u8]) {
     trial(b"64 plausible", b"", &PLAUSIBLE_64, ample());
-    trial(b"65 plausible", b"", &PLAUSIBLE_65, ample());
+    trial(b"65 plausible", b"", plausible, ample());
     trial(b"64 feasible", b"", &FEASIBLE_64, ample());
-    trial(b"65 feasible", b"", &FEASIBLE_65, ample());
+    trial(b"65 feasible", b"", feasible, ample());
 }
 
 // Exactly the room that is needed, and one entry less; a byte less is an entry less, and 43 bytes more are none.
-fn rooms() {
-    trial(b"exact room", b"", &FIG1, exact());
+fn rooms(fig1: &[u8], barren: &[u8]) {
+    trial(b"exact room", b"", fig1, exact());
     let mut room = ample();
     room.up = 8;
-    trial(b"an up entry less", b"", &FIG1, room);
+    trial(b"an up entry less", b"", fig1, room);
     room = ample();
     room.down = 1012;
-    trial(b"a down entry less", b"", &FIG1, room);
+    trial(b"a down entry less", b"", fig1, room);
     room = exact();
     room.down = 1055;
-    trial(b"a byte less", b"", &FIG1, room);
+    trial(b"a byte less", b"", fig1, room);
     room.down = 1099;
-    trial(b"43 bytes more", b"", &FIG1, room);
-    room = exact();
+    trial(b"43 bytes more", b"", fig1, room);
     room.up = 1;
     room.down = 0;
-    trial(b"no down entry, no room for one", b"", &BARREN, room);
+    trial(b"no down entry, no room for one", b"", barren, room);
 }
 
 // Refusal 9, for each slice.
-fn short_slices() {
+fn short_slices(fig1: &[u8]) {
     let mut room = exact();
     room.plausible = 191;
-    trial(b"a place less for plausible", b"", &FIG1, room);
+    trial(b"a place less for plausible", b"", fig1, room);
     room = exact();
     room.counts = 2;
-    trial(b"a count less for plausible", b"", &FIG1, room);
+    trial(b"a count less for plausible", b"", fig1, room);
     room = exact();
     room.feasible = 191;
-    trial(b"a place less for feasible", b"", &FIG1, room);
+    trial(b"a place less for feasible", b"", fig1, room);
     room = exact();
     room.tally = 2;
-    trial(b"a count less for feasible", b"", &FIG1, room);
+    trial(b"a count less for feasible", b"", fig1, room);
 }
 
 // Where two refusals apply, the first.
-fn orders() {
+fn orders(fig1: &[u8], plausible: &[u8], feasible: &[u8]) {
     let mut room = ample();
     room.up = 0;
     room.down = 0;
-    trial(b"no room for tables", b"", &FIG1, room);
-    trial(
-        b"no room for tables, 65 plausible",
-        b"",
-        &PLAUSIBLE_65,
-        room,
-    );
-    trial(b"no room for tables, 65 feasible", b"", &FEASIBLE_65, room);
+    trial(b"no room for tables", b"", fig1, room);
+    trial(b"no room for tables, 65 plausible", b"", plausible, room);
+    trial(b"no room for tables, 65 feasible", b"", feasible, room);
     room.tally = 0;
-    trial(b"nor for counts, 65 plausible", b"", &PLAUSIBLE_65, room);
+    trial(b"nor for counts, 65 plausible", b"", plausible, room);
+}
+
+fn damaged() {
+    let mut room = exact();
+    room.tally = 0;
     let mut book = FIG1;
     book[54] = 2;
-    trial(b"nor for counts, edition 2", b"", &book, room);
+    trial(b"no room for counts, edition 2", b"", &book, room);
 }

@@ -23,40 +23,40 @@ least-requires-6 : tie.Need-least-requires-6
 least-requires-6 c κs = search needs
 
 slice-relend-prefix-lend : tie.Need-slice-relend-prefix-lend
-slice-relend-prefix-lend c = search needs
+slice-relend-prefix-lend c = c .before .before .before .before .before .least .ensures
 
 slice-aggregate-lend : tie.Need-slice-aggregate-lend
-slice-aggregate-lend c = sym (length-take-le _ _ (search needs))
+slice-aggregate-lend c = sym (length-take-le _ _ (c .before .before .before .before .before .before .least .ensures))
 
 slice-relend-prefix-lend-2 : tie.Need-slice-relend-prefix-lend-2
-slice-relend-prefix-lend-2 c = search needs
+slice-relend-prefix-lend-2 c = c .before .before .before .before .before .least2 .ensures
 
 slice-aggregate-lend-2 : tie.Need-slice-aggregate-lend-2
-slice-aggregate-lend-2 c = sym (length-take-le _ _ (search needs))
+slice-aggregate-lend-2 c = sym (length-take-le _ _ (c .before .before .before .before .before .before .least2 .ensures))
 
 slice-relend-prefix-lend-3 : tie.Need-slice-relend-prefix-lend-3
-slice-relend-prefix-lend-3 c = search needs
+slice-relend-prefix-lend-3 c = c .before .before .before .before .before .least3 .ensures
 
 slice-aggregate-lend-3 : tie.Need-slice-aggregate-lend-3
-slice-aggregate-lend-3 c = sym (length-take-le _ _ (search needs))
+slice-aggregate-lend-3 c = sym (length-take-le _ _ (c .before .before .before .before .before .before .least3 .ensures))
 
 slice-relend-prefix-lend-4 : tie.Need-slice-relend-prefix-lend-4
-slice-relend-prefix-lend-4 c = search needs
+slice-relend-prefix-lend-4 c = c .before .before .before .before .before .least4 .ensures
 
 slice-aggregate-lend-4 : tie.Need-slice-aggregate-lend-4
-slice-aggregate-lend-4 c = sym (length-take-le _ _ (search needs))
+slice-aggregate-lend-4 c = sym (length-take-le _ _ (c .before .before .before .before .before .before .least4 .ensures))
 
 slice-relend-prefix-lend-5 : tie.Need-slice-relend-prefix-lend-5
-slice-relend-prefix-lend-5 c = search needs
+slice-relend-prefix-lend-5 c = c .before .before .before .before .before .least5 .ensures
 
 slice-aggregate-lend-5 : tie.Need-slice-aggregate-lend-5
-slice-aggregate-lend-5 c = sym (length-take-le _ _ (search needs))
+slice-aggregate-lend-5 c = sym (length-take-le _ _ (c .before .before .before .before .before .before .least5 .ensures))
 
 slice-relend-prefix-lend-6 : tie.Need-slice-relend-prefix-lend-6
-slice-relend-prefix-lend-6 c = search needs
+slice-relend-prefix-lend-6 c = c .before .before .before .before .before .least6 .ensures
 
 slice-aggregate-lend-6 : tie.Need-slice-aggregate-lend-6
-slice-aggregate-lend-6 c = sym (length-take-le _ _ (search needs))
+slice-aggregate-lend-6 c = sym (length-take-le _ _ (c .before .before .before .before .before .before .least6 .ensures))
 
 lend-requires : tie.Need-lend-requires
 lend-requires c κs = search needs
