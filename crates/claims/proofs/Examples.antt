@@ -1,30 +1,27 @@
 -- The table of worked examples holds, row by row.
-use mathlib.Core.Path.{_≡_, refl, sym, ap, ap₂, _∙_, subst}
-use mathlib.Core.Logic.{_⊎_, inl, inr}
-use mathlib.Core.Bool.{Bool, true, false}
-use mathlib.Core.List.{List, [], _∷_, _++_, append-nil}
-use Prim.Native.Nat.{ℕ, zero, suc, _+_, _*_, _≤_, _<_}
+use mathlib.Core.Path.{_≡_, refl, sym, _∙_, subst}
+use mathlib.Core.Logic.{inl, inr}
+use mathlib.Core.List.{List, [], _∷_, append-nil}
+use Prim.Native.Nat.{ℕ, _≤_, _<_}
 use native.Mathlib.Omega.{arith}
 use lib.ListN.{length, getD, replicate, length-replicate}
-use Rattle.lists.specs.Rising.{Rising, single, step}
-use Rattle.lists.specs.Refusals.{Said, accepted, refused}
-use Rattle.chains.specs.Limits.{max-levels}
+use Rattle.lists.specs.Refusals.{accepted, refused}
 use Rattle.chains.specs.Grammar.{Grammar}
-use Rattle.chains.specs.Tree.{Bush, nil, grow, flat, Kinded, Shallow}
+use Rattle.chains.specs.Tree.{Bush, nil, grow}
 use Rattle.book.specs.Format.{entry, grammar}
 use Rattle.sheet.specs.Reading.{Node, due, Read, begun, further, settings-of}
 use Rattle.sheet.specs.Refusals as sheet
-use Rattle.sheet.specs.Stops.{Unknown, Unfit, Deep, Fault, unknown, unfit, deep, Stop}
-use Rattle.sheet.specs.Trees.{Drawn, Fits}
+use Rattle.sheet.specs.Stops.{Fault, unknown, unfit, deep, Stop}
+use Rattle.sheet.specs.Trees.{Drawn}
 use Rattle.sheet.proofs.Trees.{sheet-tree}
 use Rattle.sheet.proofs.Refusals.{stop-refused}
 use Rattle.ranks.specs.Entries.{choices, choice, up-start, down-start}
 use Rattle.tables.specs.Promise as tables
 use Rattle.tables.proofs.Promise.{build-once}
 use Rattle.numbering.specs.Walk.{ranks, places, numbered, unused, slot-labels, kid-labels, walk, root-entry, root-labels, started, group-numbers}
-use Rattle.numbering.specs.Promise.{Lent, TreeOf, Applies, of-sheet, short-counts, short-room, big-count, bad-up, bad-root, bad-down, Grouped, CallDue}
+use Rattle.numbering.specs.Promise.{Lent, Applies, of-sheet, short-counts, short-room, big-count, bad-up, bad-root, bad-down, CallDue}
 use Rattle.claims.specs.Build.{tables-of}
-use Rattle.claims.specs.Examples.{book, room, Row, grouped, table, Claim, AllHold}
+use Rattle.claims.specs.Examples.{book, room, grouped, table, Claim, AllHold}
 use Rattle.claims.proofs.Served.{taken-whole}
 use Rattle.claims.proofs.Never25.{no-row}
 use Rattle.claims.proofs.Figure.{book-free, left}

@@ -1,28 +1,25 @@
 -- A sheet call by what a build of its own book left is never refused with 25.
-use mathlib.Core.Path.{_≡_, refl, sym, ap, _∙_, subst}
-use mathlib.Core.Logic.{_⊎_, inl, inr}
+use mathlib.Core.Path.{_≡_, refl}
+use mathlib.Core.Logic.{inl, inr}
 use mathlib.Core.List.{List, [], _∷_, _++_}
 use Prim.Native.Nat.{ℕ, suc, _+_, _*_, _≤_, _<_}
 use native.Mathlib.Omega.{arith}
 use lib.ListN.{length, getD, drop}
-use Rattle.lists.specs.Refusals.{Said, accepted, refused}
+use Rattle.lists.specs.Refusals.{accepted, refused}
 use Rattle.lists.proofs.Carries.{Carries}
-use Rattle.chains.specs.Limits.{max-members}
 use Rattle.chains.specs.Grammar.{Grammar, Lawful}
-use Rattle.chains.specs.Tree.{Bush, size, count, flat, Kinded, Root, Sub}
+use Rattle.chains.specs.Tree.{Bush, Kinded, Sub}
 use Rattle.chains.proofs.Range.{root-exists}
 use Rattle.chains.proofs.WellKinded.{kinded-count}
 use Rattle.book.specs.Format.{grammar}
-use Rattle.book.specs.Refusals as book
 use Rattle.sheet.specs.Reading.{settings-of}
-use Rattle.sheet.specs.Refusals as sheet
+use Rattle.sheet.proofs.Refusals.{Row, books, lengths, reads, row, book-low, fault-low}
 use Rattle.sheet.proofs.Trees.{sheet-tree}
-use Rattle.ranks.specs.Entries.{up-entry, down-entry, entry-bytes}
 use Rattle.ranks.proofs.Numbers.{up-entry-below, down-entry-below}
 use Rattle.tables.specs.Promise as tables
-use Rattle.numbering.specs.Walk.{Tables, ranks, places, started, group-numbers}
-use Rattle.numbering.specs.Places.{feasible-rank, down-entry-of}
-use Rattle.numbering.specs.Promise.{Lent, TreeOf, BigCount, BadUp, BadRoot, BadDown, entry-at, Applies, of-sheet, short-counts, short-room, big-count, bad-up, bad-root, bad-down, Grouped, CallDue}
+use Rattle.numbering.specs.Walk.{Tables, ranks, given, places, started, group-numbers}
+use Rattle.numbering.specs.Places.{feasible-rank}
+use Rattle.numbering.specs.Promise.{Lent, TreeOf, BigCount, BadUp, BadRoot, BadDown, entry-at, Applies, of-sheet, short-counts, short-room, big-count, bad-up, bad-root, bad-down, CallDue}
 use Rattle.claims.specs.Build.{Taken}
 use Rattle.claims.proofs.Served.{Served, start-count, built-lawful, built-serves}
 use Rattle.claims.proofs.Chosen.{ranks-below, in-place, here, started-below, handed, feasible-below}
@@ -59,7 +56,7 @@ module _ {G : Grammar} (L : Lawful G) {s f : List ℕ} {T : Tables} (served : Se
         let at = here L served tree kinded told itself i q ds t .entry in
         elim bad [ inl l ↦ omega (arith, served .down-room) | inr l ↦ kid-good (l .0) (l .1) (l .2) ]
       where
-        kid-good : (j : ℕ) → j < length (G .kids q) → getD (T .feasible-counts) (getD (G .kids q) j 0) 0 ≤ getD (T .down) (entry-at G T tree i * entry-bytes + 40 + j) 255 → ⊥
+        kid-good : (j : ℕ) → j < length (G .kids q) → getD (T .feasible-counts) (getD (G .kids q) j 0) 0 ≤ given T (entry-at G T tree i) j → ⊥
         kid-good j h l =
             let below = in-place L served tree kinded told itself i q ds t .1 in
             let (m, r) = root-exists ds (suc i) j (rw (kinded-count G ds (G .kids q) below) h) in
@@ -67,30 +64,16 @@ module _ {G : Grammar} (L : Lawful G) {s f : List ℕ} {T : Tables} (served : Se
             omega (arith, here L served tree kinded told itself i q ds t .handed j m r)
 
 -- ── which rows there are before 25 ──
-book-row : {b : List ℕ} {n p : ℕ} → book.Applies b n p → n < 9
-book-row (book.short h) = omega arith
-book-row (book.other-edition h) = omega arith
-book-row (book.out-of-range h) = omega arith
-book-row (book.not-laid h) = omega arith
-book-row (book.bad-kind k l h) = omega arith
-book-row (book.bad-kids p l h) = omega arith
-book-row (book.bad-ties p l h) = omega arith
-book-row (book.headless k l h) = omega arith
-
-sheet-row : {b l : List ℕ} {n p : ℕ} → sheet.Applies b l n p → n < 24
-sheet-row (sheet.of-book a) = let h = book-row a in omega arith
-sheet-row (sheet.bad-length h) = omega arith
-sheet-row (sheet.no-production i ds r h k) = omega arith
-sheet-row (sheet.other-kind i k v ds r h e) = omega arith
-sheet-row (sheet.ends-early d ds r) = omega arith
-sheet-row (sheet.bytes-left i r h) = omega arith
-sheet-row (sheet.too-deep i k v ds r h e) = omega arith
+sheet-row : {b l : List ℕ} {n p : ℕ} → Row b l n p → n < 24
+sheet-row (books a) = let h = book-low a in omega arith
+sheet-row (lengths e f h) = omega arith
+sheet-row (reads ds r f) = fault-low f
 
 -- a build of the book b left m, and T has it; n₀ is lent to a call with the sheet l
 module _ {b l : List ℕ} {m₀ m : tables.Lent} {entries : List ℕ} {T : Tables} {n₀ : Lent} (build : tables.BuildDue b m₀ (accepted entries) m) (taken : Taken (grammar b) m T) where
   -- THEOREM: no row applies but those before 25
   pub below-25 : {n p t : ℕ} → Applies b l T n₀ n p t → n < 25
-  below-25 (of-sheet a) = let h = sheet-row a in omega arith
+  below-25 (of-sheet a) = let h = sheet-row (row a) in omega arith
   below-25 (short-counts h) = omega arith
   below-25 (short-room h) = omega arith
   below-25 (big-count h) = absurd (counts-few (built-lawful build) (built-serves build taken) h)
