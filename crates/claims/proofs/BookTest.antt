@@ -14,8 +14,8 @@ use Rattle.chains.specs.Limits.{max-settings, max-kids}
 use Rattle.chains.specs.Grammar.{Occ, Tie, Grammar, slots, width, Exists, Target, order, Rises}
 use Rattle.book.specs.Format.{edition, kinds, prods, start, Laid, grammar}
 use Rattle.book.specs.Reading.{settings-of, mask-of}
-use Rattle.book.specs.Refusals.{OutOfRange, BadKind, BadKids, BadTies, Headless, Applies, short, other-edition, out-of-range, not-laid, bad-kind, bad-kids, bad-ties, headless}
-use Rattle.book.proofs.Kinding.{fair-kind}
+use Rattle.bookcheck.specs.Refusals.{OutOfRange, BadKind, BadKids, BadTies, Headless, Applies, short, other-edition, out-of-range, not-laid, bad-kind, bad-kids, bad-ties, headless}
+use Rattle.bookcheck.proofs.Kinding.{fair-kind}
 use Rattle.claims.proofs.Tests.{and, and-true, false-true, all-below, each-below, all-in, each-in}
 
 -- ── kinds ──

@@ -10,8 +10,8 @@ use Rattle.chains.specs.Labels.{relabel, joins, labels, index, add, canonFrom}
 use Rattle.chains.specs.Grouping.{unpack, pack}
 use Rattle.chains.specs.State.{pairs-from}
 use Rattle.book.specs.Format.{entry, ties-of, grammar}
-use Rattle.book.specs.Refusals.{OutOfRange, Applies}
-use Rattle.book.proofs.Accepted.{Accepted, accepted-book}
+use Rattle.bookcheck.specs.Refusals.{OutOfRange, Applies}
+use Rattle.bookcheck.proofs.Accepted.{Accepted, accepted-book}
 use Rattle.ranks.specs.Entries.{choices, choice, up-start, down-start, none}
 use Rattle.tables.specs.Entries.{picked, UpTable, DownTable}
 use Rattle.tables.specs.State.{based}

@@ -15,8 +15,8 @@ use Rattle.chains.specs.Plausible.{Plausible}
 use Rattle.chains.specs.Feasible.{Feasible, root}
 use Rattle.chains.proofs.Feasible.{feasible-start}
 use Rattle.book.specs.Format.{kinds, prods, grammar}
-use Rattle.book.specs.Refusals as book
-use Rattle.book.proofs.Accepted as accepted
+use Rattle.bookcheck.specs.Refusals as book
+use Rattle.bookcheck.proofs.Accepted as accepted
 use Rattle.ranks.specs.Entries.{choice, up-entry, down-entry, entry-bytes, none}
 use Rattle.ranks.proofs.Numbers.{up-entry-below, down-entry-below}
 use Rattle.tables.specs.Sets.{Has, member, members}

@@ -1,6 +1,6 @@
 -- UNIQUENESS, gathered: each call's theorem stands beside its promise.
 use mathlib.Core.Path.{_≡_, sym, _∙_}
-use Rattle.book.proofs.Once as book
+use Rattle.bookcheck.proofs.Once as book
 use Rattle.book.proofs.Places.{index-once}
 use Rattle.sheet.proofs.Once as sheet
 use Rattle.service.proofs.Word.{book-word-once, sheet-word-once}
@@ -8,8 +8,8 @@ use Rattle.ranks.proofs.Finds.{read-up-once, read-down-once, child-rank-once, l
 use Rattle.tables.specs.declared.Built.{Built}
 use Rattle.tables.specs.declared.Built.the-variants.{Accepted, Refused}
 use Rattle.tables.specs.Answer.{said}
-use Rattle.tables.proofs.Carried.{occurrences-once}
-use Rattle.tables.proofs.SetMembers.{block-size-once, first-occurrence-once}
+use Rattle.blocks.proofs.Carried.{occurrences-once}
+use Rattle.blocks.proofs.SetMembers.{block-size-once, first-occurrence-once}
 use Rattle.tables.proofs.Promise.{build-once}
 use Rattle.claims.specs.Once.{OneOutcome}
 use Rattle.claims.proofs.CallOnce.{call-once}

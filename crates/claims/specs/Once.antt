@@ -3,9 +3,9 @@ use mathlib.Core.Path.{_≡_}
 use mathlib.Core.List.{List}
 use Prim.Native.Nat.{ℕ}
 use Rattle.lists.specs.Refusals.{Said}
-use Rattle.book.specs.declared.Checked.{Checked}
-use Rattle.book.specs.Answer as book-answer
-use Rattle.book.specs.Refusals.{BookDue}
+use Rattle.bookcheck.specs.declared.Checked.{Checked}
+use Rattle.bookcheck.specs.Answer as book-answer
+use Rattle.bookcheck.specs.Refusals.{BookDue}
 use Rattle.book.specs.Reading.{Index}
 use Rattle.sheet.specs.declared.SheetChecked.{SheetChecked}
 use Rattle.sheet.specs.Answer as sheet-answer
@@ -18,7 +18,7 @@ use Rattle.ranks.specs.declared.DownRead.{DownRead}
 use Rattle.ranks.specs.Reads.{up-said, down-said, UpFinds, DownFinds, child-rank-at, label-at}
 use Rattle.tables.specs.declared.Built.{Built}
 use Rattle.tables.specs.Answer as build-answer
-use Rattle.tables.specs.Blocks.{Block, Size, FirstIn}
+use Rattle.blocks.specs.Blocks.{Block, Size, FirstIn}
 use Rattle.tables.specs.Promise as tables
 use Rattle.numbering.specs.Walk.{Tables}
 use Rattle.numbering.specs.Promise as numbering

@@ -15,9 +15,6 @@ pub mod Memory
 pub mod Holds
 pub mod Entries
 pub mod Promise
-pub mod BitSets
-pub mod SetMembers
-pub mod Carried
 pub mod Yielding
 pub mod Visiting
 pub mod Opening

@@ -2,7 +2,6 @@ pub mod Sets
 pub mod Entries
 pub mod Promise
 pub mod Memory
-pub mod Blocks
 pub mod State
 pub mod Seen
 pub mod Visit

@@ -1,5 +1,4 @@
-// The build: plausible and feasible sets, and the up and down tables over them. Also the blocks of a down entry as sets.
-mod blocks;
+// The build: plausible and feasible sets, and the up and down tables over them.
 mod downward;
 mod entry;
 mod fill;
@@ -16,9 +15,6 @@ mod widen;
 
 ghost use Rattle.tables.specs.Promise.{BuildDue};
 ghost use Rattle.tables.specs.Answer.{said, lent};
-pub use blocks::block_size;
-pub use blocks::first_occurrence;
-pub use blocks::occurrences;
 
 // What a build answers: the numbers of up and down entries, or the first refusal that applies.
 pub enum Built {
@@ -41,9 +37,9 @@ pub fn build(
         (said r)
         (lent (now (plausible .exit)) (now (counts .exit)) (now (feasible .exit)) (now (tally .exit)) (now (up .exit)) (now (down .exit))) ⌝ }
 {
-    match book::check_book(book) {
-        book::Checked::Refused { number, place } => Built::Refused { number, place },
-        book::Checked::Accepted { kinds, productions } => {
+    match bookcheck::check_book(book) {
+        bookcheck::Checked::Refused { number, place } => Built::Refused { number, place },
+        bookcheck::Checked::Accepted { kinds, productions } => {
             if making::too_short(
                 widen::span(kinds),
                 plausible.len(),

@@ -1,5 +1,5 @@
 //! `compare --trial COMMAND --groups COMMAND [--seed S] [--requests N] [--batch B] [--inputs N] [--swaps N]`
-//! Exits with 1 at the first difference, and when some refusal was never reached.
+//! Exits with 1 at the first difference, and when some refusal or the most groups were never reached.
 
 use compare::program::Program;
 use compare::tally::Tally;
@@ -27,26 +27,19 @@ fn run() -> Result<(), String> {
         Some(value) => value.parse().map_err(|_| format!("--{name} wants a number")),
         None => Ok(usual),
     };
-    let program = |name: &str| options.get(name).map(|command| Program::new(command));
-    let (trial, groups) = (program("trial"), program("groups"));
+    let program = |name: &str| match options.get(name) {
+        Some(command) => Ok(Program::new(command)),
+        None => Err(format!("name a program: --{name} COMMAND")),
+    };
+    let (trial, groups) = (program("trial")?, program("groups")?);
     let seed = number("seed", 1)?;
     let mut tally = Tally::default();
-    if let Some(trial) = &trial {
-        batches::run(trial, seed, number("requests", 3200)?, number("batch", 160)?.max(1), &mut tally)?;
-        batches::cut_runs(trial, seed, &mut tally)?;
-        swaps::run(trial, seed, number("swaps", 200)?, &mut tally)?;
-    }
-    if let Some(groups) = &groups {
-        inputs::run(groups, seed, number("inputs", 400)?, &mut tally)?;
-    }
+    batches::run(&trial, seed, number("requests", 3200)?, number("batch", 160)?.max(1), &mut tally)?;
+    batches::cut_runs(&trial, seed, &mut tally)?;
+    swaps::run(&trial, seed, number("swaps", 200)?, &mut tally)?;
+    inputs::run(&groups, seed, number("inputs", 400)?, &mut tally)?;
     tally.print();
-    match (trial.is_some(), tally.missing()) {
-        (false, _) if groups.is_none() => Err("name a program: --trial or --groups".to_string()),
-        // `groups` alone lends its own room, where 9 and 25 can't occur.
-        (false, missing) if missing.iter().all(|number| [9, 25].contains(number)) => Ok(()),
-        (_, missing) if missing.is_empty() => Ok(()),
-        (_, missing) => Err(format!("never reached: {missing:?}")),
-    }
+    tally.missing().map_or(Ok(()), Err)
 }
 
 fn main() -> ExitCode {

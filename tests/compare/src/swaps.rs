@@ -70,8 +70,9 @@ pub fn run(program: &Program, seed: u64, count: u64, tally: &mut Tally) -> Resul
     let name = |place: usize| format!("swap {} of seed {seed}", place / 2);
     let answers = compare(program, &requests, name, tally)?;
     for (index, (swap, answers)) in swaps.iter().zip(answers.chunks(2)).enumerate() {
-        let (Some(old), Some(new)) = (read(&answers[0]), read(&answers[1])) else {
-            return Err(format!("swap {index} of seed {seed} is refused"));
+        let (old, new) = match (read(&answers[0]), read(&answers[1])) {
+            (Some(old), Some(new)) => (old, new),
+            _ => return Err(format!("swap {index} of seed {seed} is refused")),
         };
         if !kept(swap, &old, &new) {
             let Swap { old, new, node, .. } = swap;

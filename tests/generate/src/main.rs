@@ -1,4 +1,5 @@
-//! `generate trial SEED COUNT` writes a run of requests, `generate groups SEED INDEX` one input.
+//! `generate trial SEED COUNT` writes a run of requests, `generate groups SEED INDEX` one input, `generate stored` the
+//! run that stands beside the program `trial`.
 
 use std::io::Write;
 
@@ -11,8 +12,9 @@ fn main() {
             generate::requests::framed(&requests)
         }
         (Some("groups"), Some(seed), Some(index)) => generate::inputs::make(seed, index),
+        (Some("stored"), None, None) => generate::stored::run(),
         _ => {
-            eprintln!("usage: generate trial SEED COUNT | generate groups SEED INDEX");
+            eprintln!("usage: generate trial SEED COUNT | generate groups SEED INDEX | generate stored");
             std::process::exit(2);
         }
     };

@@ -48,8 +48,8 @@ impl<'a> Arguments<'a> {
 }
 
 fn cut_length(bytes: &[u8]) -> Option<(usize, &[u8])> {
-    let (length, rest) = bytes.split_first_chunk::<4>()?;
-    Some((u32::from_le_bytes(*length) as usize, rest))
+    let (length, rest) = (bytes.get(..4)?, &bytes[4..]);
+    Some((u32::from_le_bytes(length.try_into().ok()?) as usize, rest))
 }
 
 fn line<T: Display>(elements: &[T]) -> String {

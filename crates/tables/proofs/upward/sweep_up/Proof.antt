@@ -4,7 +4,7 @@ use mathlib.Core.Logic.{⊎-elim}
 use Prim.Native.Nat.{_<_, _-_}
 use Rattle.chains.specs.Plausible.{Plausible}
 use Rattle.book.specs.Format.{kinds, prods, grammar}
-use Rattle.book.proofs.Accepted.{told-prods, place-read}
+use Rattle.bookcheck.proofs.Accepted.{told-prods, place-read}
 use Rattle.tables.specs.Upward.{UpMarks, UpSwept}
 use Rattle.tables.proofs.Sweeping.{OnSweep, sweep-begun, sweep-still, sweep-added, sweep-full, sweep-end-added, sweep-end-still}
 use Rattle.tables.proofs.UpwardSweep.{UpTurn, up-lasts, up-serves}

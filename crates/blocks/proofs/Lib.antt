@@ -1,0 +1,3 @@
+pub mod BitSets
+pub mod SetMembers
+pub mod Carried
