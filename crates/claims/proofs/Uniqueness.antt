@@ -6,20 +6,29 @@ use Rattle.sheet.proofs.Once as sheet
 use Rattle.service.proofs.Word.{book-word-once, sheet-word-once}
 use Rattle.ranks.proofs.Finds.{read-up-once, read-down-once, child-rank-once, label-once, started-once}
 use Rattle.tables.specs.declared.Built.{Built}
-use Rattle.tables.specs.declared.Built.the-variants.{Accepted, Refused}
-use Rattle.tables.specs.Answer.{said}
+use Rattle.tables.specs.declared.Built.the-variants as build
+use Rattle.tables.specs.Answer as build-answer
 use Rattle.blocks.proofs.Carried.{occurrences-once}
 use Rattle.blocks.proofs.SetMembers.{block-size-once, first-occurrence-once}
 use Rattle.tables.proofs.Promise.{build-once}
+use Rattle.numbering.specs.declared.Grouping.{Grouping}
+use Rattle.numbering.specs.declared.Grouping.the-variants as call
+use Rattle.numbering.specs.Answer as call-answer
 use Rattle.claims.specs.Once.{OneOutcome}
 use Rattle.claims.proofs.CallOnce.{call-once}
 
--- what the build's answer says is the whole of it
-said-once : (r s : Built) → said r ≡ said s → r ≡ s
-said-once (Accepted u d) (Accepted u′ d′) e = cc
-said-once (Accepted u d) (Refused n p) e = cc
-said-once (Refused n p) (Accepted u d) e = cc
-said-once (Refused n p) (Refused n′ p′) e = cc
+-- what an answer says is the whole of it
+built-once : (r s : Built) → build-answer.said r ≡ build-answer.said s → r ≡ s
+built-once (build.Accepted u d) (build.Accepted u′ d′) e = cc
+built-once (build.Accepted u d) (build.Refused n p) e = cc
+built-once (build.Refused n p) (build.Accepted u d) e = cc
+built-once (build.Refused n p) (build.Refused n′ p′) e = cc
+
+grouping-once : (r s : Grouping) → call-answer.said r ≡ call-answer.said s → r ≡ s
+grouping-once (call.Accepted n s g) (call.Accepted n′ s′ g′) e = cc
+grouping-once (call.Accepted n s g) (call.Refused q p) e = cc
+grouping-once (call.Refused q p) (call.Accepted n s g) e = cc
+grouping-once (call.Refused q p) (call.Refused q′ p′) e = cc
 
 -- THEOREM: every public call has one outcome
 pub one-outcome : OneOutcome
@@ -30,7 +39,7 @@ one-outcome = record {
   check-sheet = sheet.check-once;
   export-book = book-word-once;
   export-sheet = sheet-word-once;
-  build = λ b m r s m₁ m₂ d e. let (a, l) = build-once b m (said r) (said s) m₁ m₂ d e in (said-once r s a, l);
+  build = λ b m r s m₁ m₂ d e. let (a, l) = build-once b m (build-answer.said r) (build-answer.said s) m₁ m₂ d e in (built-once r s a, l);
   occurrences = occurrences-once;
   block-size = block-size-once;
   first-occurrence = first-occurrence-once;
@@ -39,5 +48,5 @@ one-outcome = record {
   child-rank = child-rank-once;
   label = label-once;
   started = started-once;
-  group-sheet = call-once;
+  group-sheet = λ b l T m r s m₁ m₂ d e. let (a, k) = call-once b l T m (call-answer.said r) (call-answer.said s) m₁ m₂ d e in (grouping-once r s a, k);
 }

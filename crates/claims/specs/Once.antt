@@ -2,7 +2,6 @@
 use mathlib.Core.Path.{_≡_}
 use mathlib.Core.List.{List}
 use Prim.Native.Nat.{ℕ}
-use Rattle.lists.specs.Refusals.{Said}
 use Rattle.bookcheck.specs.declared.Checked.{Checked}
 use Rattle.bookcheck.specs.Answer as book-answer
 use Rattle.bookcheck.specs.Refusals.{BookDue}
@@ -20,6 +19,8 @@ use Rattle.tables.specs.declared.Built.{Built}
 use Rattle.tables.specs.Answer as build-answer
 use Rattle.blocks.specs.Blocks.{Block, Size, FirstIn}
 use Rattle.tables.specs.Promise as tables
+use Rattle.numbering.specs.declared.Grouping.{Grouping}
+use Rattle.numbering.specs.Answer as call-answer
 use Rattle.numbering.specs.Walk.{Tables}
 use Rattle.numbering.specs.Promise as numbering
 
@@ -47,6 +48,6 @@ pub record OneOutcome : Type 0 where
   pub child-rank : (down : List ℕ) (e j : ℕ) (r s : Feasible) → r .0 ≡ child-rank-at down e j → s .0 ≡ child-rank-at down e j → r ≡ s
   pub label : (down : List ℕ) (e o x y : ℕ) → x ≡ label-at down e o → y ≡ label-at down e o → x ≡ y
   pub started : (p : Plausible) (r s : Feasible) → r .0 ≡ p .0 → s .0 ≡ p .0 → r ≡ s
-  -- the sheet call, with two lent slices: what it says and what it leaves
-  pub group-sheet : (b l : List ℕ) (T : Tables) (m : numbering.Lent) (a a′ : Said) (m₁ m₂ : numbering.Lent)
-      → numbering.CallDue b l T m a m₁ → numbering.CallDue b l T m a′ m₂ → (a ≡ a′) × (m₁ ≡ m₂)
+  -- the sheet call, with two lent slices
+  pub group-sheet : (b l : List ℕ) (T : Tables) (m : numbering.Lent) (r s : Grouping) (m₁ m₂ : numbering.Lent)
+      → numbering.CallDue b l T m (call-answer.said r) m₁ → numbering.CallDue b l T m (call-answer.said s) m₂ → (r ≡ s) × (m₁ ≡ m₂)
