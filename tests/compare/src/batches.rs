@@ -52,7 +52,8 @@ pub fn compare(
         rest = after;
     }
     if !rest.is_empty() {
-        return Err(format!("{} goes on after its last answer: {:?}", side.name, &rest[..rest.len().min(200)]));
+        let last = requests.last().map_or(&[][..], |request| request);
+        return Err(difference(&format!("{}, after its last answer", side.name), last, "", rest));
     }
     Ok(answers)
 }
