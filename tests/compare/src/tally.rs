@@ -2,11 +2,18 @@
 
 use std::collections::BTreeMap;
 
-/// The refusals that a run has to reach.
-pub const ALL: [u16; 20] = [1, 2, 3, 4, 5, 6, 7, 8, 9, 10, 11, 12, 13, 20, 21, 22, 23, 24, 25, 30];
+/// What a run has to reach: these refusals, and so many groups.
+pub struct Wanted {
+    refusals: &'static [u16],
+    groups: usize,
+}
 
-/// The most groups that there can be, eight at each of 4,096 nodes: a run has to reach them too.
-pub const MOST_GROUPS: usize = 32_768;
+/// Of the programs every refusal, and the most groups that there can be, eight at each of 4,096 nodes.
+pub const OF_PROGRAMS: Wanted =
+    Wanted { refusals: &[1, 2, 3, 4, 5, 6, 7, 8, 9, 10, 11, 12, 13, 20, 21, 22, 23, 24, 25, 30], groups: 32_768 };
+
+/// Of the checks that C calls.
+pub const OF_CHECKS: Wanted = Wanted { refusals: &[1, 2, 3, 4, 5, 6, 7, 8, 20, 21, 22, 23, 30], groups: 0 };
 
 #[derive(Default)]
 pub struct Tally {
@@ -39,17 +46,32 @@ impl Tally {
     pub fn print(&self) {
         println!("accepted {}, block sets {}", self.accepted, self.sets);
         println!("groups   over 256: {}, at most: {}", self.over_a_byte, self.groups);
+        self.print_refused();
+    }
+
+    /// The same of the checks, which give neither block sets nor groups.
+    pub fn print_checks(&self) {
+        println!("accepted {}", self.accepted);
+        self.print_refused();
+    }
+
+    fn print_refused(&self) {
         let counts = self.refused.iter().map(|(number, times)| format!("{number}: {times}"));
         println!("refused  {}", counts.collect::<Vec<_>>().join(", "));
     }
 
     /// What was not reached, in words; nothing if all was.
-    pub fn missing(&self) -> Option<String> {
-        let refusals: Vec<u16> = ALL.into_iter().filter(|number| !self.refused.contains_key(number)).collect();
-        match (refusals.is_empty(), self.groups == MOST_GROUPS) {
-            (true, true) => None,
-            (true, false) => Some(format!("never reached: {MOST_GROUPS} groups, only {}", self.groups)),
-            (false, _) => Some(format!("never reached: {refusals:?}")),
+    pub fn missing(&self, wanted: &Wanted) -> Option<String> {
+        let refusals = wanted.refusals.iter().filter(|number| !self.refused.contains_key(number));
+        let refusals: Vec<&u16> = refusals.collect();
+        if self.accepted == 0 {
+            Some("nothing was accepted".to_string())
+        } else if !refusals.is_empty() {
+            Some(format!("never reached: {refusals:?}"))
+        } else if self.groups != wanted.groups {
+            Some(format!("never reached: {} groups, only {}", wanted.groups, self.groups))
+        } else {
+            None
         }
     }
 }
