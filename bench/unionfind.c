@@ -9,15 +9,18 @@
  * It trusts its input: only what `groups` accepts may be given to it. That is part of the
  * comparison, since the sheet call checks book, sheet and tables each time.
  *
- *   unionfind --numbers        prints each node's group numbers, one line for each node
- *   unionfind REPETITIONS      prints: nodes settings groups, then nanoseconds for one call with
- *                              the book read each time and with the book read once
+ *   unionfind numbers          prints each node's group numbers, one line for each node
+ *   unionfind each TIMES       does it so many times, the book read each time; prints nodes, settings, groups
+ *   unionfind once TIMES       does it so many times, the book read once
  */
+#include <stddef.h>
 #include <stdint.h>
-#include <stdio.h>
-#include <stdlib.h>
-#include <string.h>
-#include <time.h>
+
+/* Declared here, so that no header of a C library is needed. */
+int printf(const char *format, ...);
+int putchar(int byte);
+long atol(const char *word);
+long read(int file, void *to, size_t length);
 
 enum { MOST_INPUT = 37262, MOST_NODES = 4096, MOST_SETTINGS = 8 * MOST_NODES, UNNUMBERED = 65535 };
 
@@ -131,13 +134,6 @@ static uint16_t number_groups(const struct book *book, const uint8_t *sheet, str
     return next;
 }
 
-static double nanoseconds(void)
-{
-    struct timespec now;
-    clock_gettime(CLOCK_MONOTONIC, &now);
-    return 1e9 * now.tv_sec + now.tv_nsec;
-}
-
 static void print_numbers(const struct book *book, const uint8_t *sheet, const struct tree *tree, const uint16_t *groups)
 {
     for (uint16_t node = 0; node < tree->nodes; node++) {
@@ -148,39 +144,39 @@ static void print_numbers(const struct book *book, const uint8_t *sheet, const s
     }
 }
 
+static size_t read_input(uint8_t *input)
+{
+    size_t length = 0;
+    long got;
+    while ((got = read(0, input + length, MOST_INPUT - length)) > 0)
+        length += got;
+    return length;
+}
+
 int main(int count, char **words)
 {
     static uint8_t input[MOST_INPUT];
     static struct book book;
     static struct tree tree;
     static uint16_t groups[MOST_SETTINGS];
-    size_t length = fread(input, 1, sizeof input, stdin);
-    if (length < 2 || count != 2) {
-        fputs("usage: unionfind --numbers|REPETITIONS <input of groups\n", stderr);
+    size_t length = read_input(input);
+    long times = count == 3 ? atol(words[2]) : 1;
+    if (length < 2 || count < 2 || times < 1) {
+        printf("usage: unionfind numbers|each TIMES|once TIMES <input of groups\n");
         return 2;
     }
     size_t sheet_length = input[0] + 256 * input[1];
     const uint8_t *sheet = input + 2, *bytes = sheet + sheet_length;
-    read_book(bytes, length - 2 - sheet_length, &book);
-    uint16_t found = number_groups(&book, sheet, &tree, groups);
-    if (strcmp(words[1], "--numbers") == 0) {
+    int each = words[1][0] == 'e';
+    uint16_t found = 0;
+    for (long turn = 0; turn < times; turn++) {
+        if (each || turn == 0)
+            read_book(bytes, length - 2 - sheet_length, &book);
+        found = number_groups(&book, sheet, &tree, groups);
+    }
+    if (words[1][0] == 'n')
         print_numbers(&book, sheet, &tree, groups);
-        return 0;
-    }
-    long repetitions = atol(words[1]);
-    unsigned long sum = 0;
-    double begun = nanoseconds();
-    for (long turn = 0; turn < repetitions; turn++) {
-        read_book(bytes, length - 2 - sheet_length, &book);
-        sum += number_groups(&book, sheet, &tree, groups);
-    }
-    double between = nanoseconds();
-    for (long turn = 0; turn < repetitions; turn++)
-        sum += number_groups(&book, sheet, &tree, groups);
-    double ended = nanoseconds();
-    if (sum != 2ul * repetitions * found)
-        return 1;
-    printf("%u %u %u %.0f %.0f\n", tree.nodes, tree.settings, found, (between - begun) / repetitions,
-           (ended - between) / repetitions);
+    else
+        printf("%u %u %u\n", tree.nodes, tree.settings, found);
     return 0;
 }

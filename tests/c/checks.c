@@ -1,14 +1,7 @@
 /* The exported checks, called from C. Every expected number and place was worked out by hand from the paper's table. */
-#include "unchancyra.h"
+#include "fence.h"
 
-/* Declared here, so that no header of a C library is needed. */
-int printf(const char *format, ...);
-void *memcpy(void *to, const void *from, size_t length);
 void *memset(void *to, int byte, size_t length);
-void *mmap(void *at, size_t length, int protection, int flags, int file, long offset);
-int mprotect(void *at, size_t length, int protection);
-
-enum { READ = 1, WRITE = 2, PRIVATE_ANONYMOUS = 0x22, PAGE = 4096, ROOM = 2 * PAGE };
 
 /* The article's Fig. 1: kinds at 0, productions at 6, 14, 26, 40 and 47, the trailer at 54. */
 static const uint8_t fig1[66] = {2, 0, 4, 5, 4, 5, 0, 1, 1, 2, 0, 9, 1, 11, 1, 1, 2, 4, 1, 9, 3, 11, 8, 0, 10, 2, 1, 1, 2, 5, 1, 9, 3,
@@ -18,32 +11,6 @@ static const uint8_t fig1[66] = {2, 0, 4, 5, 4, 5, 0, 1, 1, 2, 0, 9, 1, 11, 1, 1
 static const uint8_t tower[32] = {0, 0, 8, 0, 0, 1, 1, 0, 1, 1, 1, 0, 1, 0, 0, 1, 2, 1, 1, 0, 1, 0, 2, 0, 4, 0, 0, 0, 20, 0, 16, 0};
 
 static unsigned failures, checks;
-
-/* Memory whose last byte stands right before a page that can't be read, and that can't be written while a call runs. */
-struct fence {
-    uint8_t *start;
-};
-
-static struct fence book_fence, sheet_fence;
-
-static void build_fence(struct fence *fence) {
-    fence->start = mmap(0, ROOM + PAGE, READ | WRITE, PRIVATE_ANONYMOUS, -1, 0);
-    mprotect(fence->start + ROOM, PAGE, 0);
-}
-
-static const uint8_t *behind(struct fence *fence, const uint8_t *bytes, size_t length) {
-    uint8_t *at = fence->start + ROOM - length;
-    mprotect(fence->start, ROOM, READ | WRITE);
-    if (length != 0) memcpy(at, bytes, length);
-    mprotect(fence->start, ROOM, READ);
-    return at;
-}
-
-static uint64_t check_book(const uint8_t *book, size_t length) { return unchancyra_check_book(behind(&book_fence, book, length), length); }
-
-static uint64_t check_sheet(const uint8_t *book, size_t book_length, const uint8_t *sheet, size_t sheet_length) {
-    return unchancyra_check_sheet(behind(&book_fence, book, book_length), book_length, behind(&sheet_fence, sheet, sheet_length), sheet_length);
-}
 
 static void expect(const char *what, uint64_t answer, unsigned number, unsigned place) {
     checks++;

@@ -7,8 +7,8 @@ use lib.ListN.{length, getD, drop, length-drop, List·getD-eq-default}
 use lib.Seq.{length-take-le, getD-take, getD-drop}
 use borrow.Author.Tests.{lt-ltb, le-ltb, eq-eqb, ne-eqb}
 use Rattle.lists.specs.Part.{part}
-use Rattle.book.specs.Format.{trailer, left-at}
-use Rattle.book.specs.Reading.{told, kid-at, kind-in}
+use Rattle.book.specs.Format.{trailer, left-at, next-at}
+use Rattle.book.specs.Reading.{told, kid-at, kind-in, following}
 
 pub past-end : (b : List ℕ) (n : ℕ) → length b ≤ n → 0 ≡ getD b n 0
 past-end b n h = sym (List·getD-eq-default b 0 h)
@@ -26,6 +26,17 @@ told-field b i h ea en el eh =
 
 pub told-none : (b : List ℕ) (i : ℕ) → length b < 12 → 0 ≡ told b i
 told-none b i h = rw (lt-ltb (length b) 12 h)
+
+-- past the last field there is nothing
+pub told-past : (b : List ℕ) (i : ℕ) → 12 ≤ length b → 6 ≤ i → 0 ≡ told b i
+told-past b i h l =
+    let low = past-end b (trailer b + 2 * i) (omega arith) in
+    let high = past-end b (trailer b + 2 * i + 1) (omega arith) in
+    rw (le-ltb (length b) 12 h) (omega arith)
+
+-- inside the book the entry that follows is the next one
+pub following-is : (b : List ℕ) (at : ℕ) {r : ℕ} → r ≡ following b at → at < length b → r ≡ next-at b at
+following-is b at e h = rw (lt-ltb at (length b) h) at e
 
 pub length-part : (a n : ℕ) (b : List ℕ) → a + n ≤ length b → length (part a n b) ≡ n
 length-part a n b h = length-take-le n (drop a b) (omega (arith, length-drop a b))

@@ -1,14 +1,8 @@
-// The grammar book: what its bytes say, and the check of refusals 1 to 8.
+// The grammar book: what its bytes say.
 //
 // An accessor takes the book and, for a production, the place of its entry. It answers for every book and every place:
-// 0 where what is asked for is not there. Of an accepted book each is a field of the grammar (proofs/Accepted.antt).
-mod children;
-mod heads;
-mod layout;
+// 0 where what is asked for is not there. Of an accepted book each is a field of the grammar (crates/bookcheck/proofs/Accepted.antt).
 pub mod limits;
-mod masks;
-mod ties;
-mod walk;
 
 ghost use mathlib.Core.Path.{_≡_};
 ghost use Prim.Native.Nat.{_+_, _*_, _/_, _%_, _<_, _≤_, min};
@@ -16,16 +10,6 @@ ghost use lib.ListN.{length, getD};
 ghost use Rattle.book.specs.Format.{arity-at, left-at, pairs-at, next-at, entry};
 ghost use Rattle.chains.specs.Limits.{max-prods};
 ghost use Rattle.book.specs.Reading.{told, settings-of, mask-of, kid-at, kind-in, to-at, from-at, following, Index};
-ghost use Rattle.book.specs.Refusals.{BookDue};
-ghost use Rattle.book.specs.Answer.{said};
-ghost use Rattle.book.specs.Search.{Opened};
-use walk::Row;
-
-// What the check of a book answers.
-pub enum Checked {
-    Accepted { kinds: u16, productions: u16 },
-    Refused { number: u8, place: u16 },
-}
 
 fn wide(x: u8) -> usize
     ensures { λ r. ⌜ (r ≡ x) × (r < 256) ⌝ }
@@ -59,13 +43,15 @@ fn byte(book: &[u8], at: usize, off: usize) -> u8
     book[at + off]
 }
 
-// Field `i` of the trailer, the low byte first, or 0 where the book is too short to have one.
-fn field(book: &[u8], i: usize) -> u16
-    requires { ⌜ i < 6 ⌝ }
+// Field `i` of the trailer, the low byte first, or 0 where there is none.
+pub fn field(book: &[u8], i: usize) -> u16
     ensures { λ r. ⌜ r ≡ told (now (book .entry)) i ⌝ }
 {
     let n = book.len();
     if n < limits::TRAILER {
+        return 0;
+    }
+    if limits::FIELDS <= i {
         return 0;
     }
     let at = n - limits::TRAILER + 2 * i;
@@ -175,7 +161,7 @@ fn step(book: &[u8], at: usize) -> usize
 }
 
 // The place of the first entry: the trailer points back to it.
-fn first_entry(book: &[u8]) -> usize
+pub fn first_entry(book: &[u8]) -> usize
     ensures { λ r. ⌜ r ≡ entry (now (book .entry)) 0 ⌝ }
 {
     let n = book.len();
@@ -225,64 +211,4 @@ pub fn setting(o: u8) -> u8
     ensures { λ r. ⌜ r ≡ o % 8 ⌝ }
 {
     o & 7
-}
-
-fn refused(number: u8, place: u8) -> Checked
-    ensures { λ r. ⌜ r ≡ Checked.Refused number place ⌝ }
-{
-    Checked::Refused {
-        number,
-        place: word(place),
-    }
-}
-
-// Refusals 1 to 8, each sought over the whole book before the next.
-pub fn check_book(book: &[u8]) -> Checked
-    ensures { λ r. ⌜ BookDue (now (book .entry)) (said r) ⌝ }
-{
-    if book.len() < limits::TRAILER {
-        return refused(1, 0);
-    }
-    if field(book, 0) != limits::EDITION {
-        return refused(2, 0);
-    }
-    if layout::out_of_range(book) {
-        return refused(3, 0);
-    }
-    if !layout::is_laid(book) {
-        return refused(4, 0);
-    }
-    check_entries(
-        book,
-        kinds(book) as u8,
-        productions(book) as u8,
-        start(book) as u8,
-    )
-}
-
-// Refusals 5 to 8, of a book that is laid out.
-fn check_entries(book: &[u8], n: u8, m: u8, first: u8) -> Checked
-    requires { ⌜ Opened (now book) n m first ⌝ }
-    ensures { λ r. ⌜ BookDue (now (book .entry)) (said r) ⌝ }
-{
-    let k = masks::first_bad_kind(book, n, first);
-    if k < n {
-        return refused(5, k);
-    }
-    let p = walk::first_bad(book, Row::Kids, n, first, m);
-    if p < m {
-        return refused(6, p);
-    }
-    let q = walk::first_bad(book, Row::Ties, n, first, m);
-    if q < m {
-        return refused(7, q);
-    }
-    let h = heads::first_headless(book, n, m);
-    if h < n {
-        return refused(8, h);
-    }
-    Checked::Accepted {
-        kinds: word(n),
-        productions: word(m),
-    }
 }

@@ -3,6 +3,9 @@
 // Bytes of the trailer.
 pub const TRAILER: usize = 12;
 
+// Its fields, two bytes each.
+pub const FIELDS: usize = 6;
+
 // The edition that this reader knows.
 pub const EDITION: u16 = 1;
 

@@ -3,14 +3,14 @@ mod damage;
 mod large;
 mod small;
 
-use book::Checked;
+use bookcheck::Checked;
 use damage::damaged;
 use damage::fig1;
 
 // A line: the example's name and the answer.
 fn show(name: &[u8], bytes: &[u8]) {
     io::write_all(1, name);
-    match book::check_book(bytes) {
+    match bookcheck::check_book(bytes) {
         Checked::Accepted { kinds, productions } => {
             io::write_all(1, b": accepted");
             number(kinds as u64);

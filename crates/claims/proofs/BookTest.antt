@@ -1,9 +1,9 @@
 -- A test of a book that computes: where it comes out true, no row of the book's table applies.
-use mathlib.Core.Path.{_≡_, refl, sym, ap, _∙_, subst}
-use mathlib.Core.Logic.{_⊎_, inl, inr}
+use mathlib.Core.Path.{_≡_, refl, sym}
+use mathlib.Core.Logic.{inl, inr}
 use mathlib.Core.Bool.{Bool, true, false, not}
-use mathlib.Core.List.{List, [], _∷_, List·Memᴰ}
-use Prim.Native.Nat.{ℕ, zero, suc, _+_, _*_, _/_, _^_, _≤_, _<_}
+use mathlib.Core.List.{List, [], _∷_}
+use Prim.Native.Nat.{ℕ, zero, suc, _/_, _^_, _≤_, _<_}
 use native.Mathlib.Omega.{arith}
 use borrow.Author.Tests.{ltb-true, leb-true, eqb-true, eqb-false, not-true}
 use lib.Dec.{ltb, leb, eqb}
@@ -14,8 +14,8 @@ use Rattle.chains.specs.Limits.{max-settings, max-kids}
 use Rattle.chains.specs.Grammar.{Occ, Tie, Grammar, slots, width, Exists, Target, order, Rises}
 use Rattle.book.specs.Format.{edition, kinds, prods, start, Laid, grammar}
 use Rattle.book.specs.Reading.{settings-of, mask-of}
-use Rattle.book.specs.Refusals.{OutOfRange, BadKind, BadKids, BadTies, Headless, Applies, short, other-edition, out-of-range, not-laid, bad-kind, bad-kids, bad-ties, headless}
-use Rattle.book.proofs.Kinding.{fair-kind}
+use Rattle.bookcheck.specs.Refusals.{OutOfRange, BadKind, BadKids, BadTies, Headless, Applies, short, other-edition, out-of-range, not-laid, bad-kind, bad-kids, bad-ties, headless}
+use Rattle.bookcheck.proofs.Kinding.{fair-kind}
 use Rattle.claims.proofs.Tests.{and, and-true, false-true, all-below, each-below, all-in, each-in}
 
 -- ── kinds ──

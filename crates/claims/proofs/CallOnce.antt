@@ -3,11 +3,10 @@ use mathlib.Core.Path.{_≡_, refl, sym, ap, ap₂, _∙_}
 use mathlib.Core.List.{List, [], _∷_, _++_}
 use Prim.Native.Nat.{ℕ, _*_}
 use lib.ListN.{length, getD, drop}
-use Rattle.lists.specs.Refusals.{Said, accepted, refused, First}
+use Rattle.lists.specs.Refusals.{Said, accepted, refused}
 use Rattle.lists.proofs.Refusals.{first-once}
 use Rattle.chains.specs.Grammar.{Grammar}
 use Rattle.chains.specs.Tree.{Bush}
-use Rattle.book.specs.Format.{grammar}
 use Rattle.sheet.specs.Reading.{settings-of}
 use Rattle.numbering.specs.Walk.{Tables, places, started, group-numbers}
 use Rattle.numbering.specs.Promise.{Lent, Applies, Fault, turn, Grouped, CallDue}

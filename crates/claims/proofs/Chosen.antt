@@ -1,20 +1,21 @@
 -- By tables that serve their grammar the two walks read the ranks of a tree's codes: upward those of its subtrees' own chains, downward those of the
 -- whole tree's; and the labels of a node's entry agree exactly where the whole tree's chains join.
 use mathlib.Core.Path.{_≡_, refl, sym, ap, ap₂, _∙_, subst, subst₂, Σ-path}
-use mathlib.Core.Logic.{_⊎_, inl, inr, _↔_}
+use mathlib.Core.Logic.{inl, inr, _↔_}
 use mathlib.Core.List.{List, [], _∷_, map}
-use Prim.Native.Nat.{ℕ, zero, suc, _+_, _*_, _/_, _%_, _≤_, _<_}
+use Prim.Native.Nat.{ℕ, suc, _+_, _*_, _<_}
 use native.Mathlib.Omega.{arith}
-use lib.ListN.{length, getD, take}
+use lib.ListN.{getD, take}
 use lib.Seq.{getD-take}
 use Rattle.lists.specs.Part.{part}
 use Rattle.lists.proofs.Parts.{getD-part}
 use Rattle.lists.proofs.Carries.{Carries}
-use Rattle.chains.specs.Grammar.{Occ, Grammar, Lawful, slots, width, Exists}
+use Rattle.chains.specs.Grammar.{Occ, Grammar, Lawful, width, Exists}
 use Rattle.chains.specs.Tree.{Bush, nil, grow, size, flat, Kinded, Root, Sub, roots}
 use Rattle.chains.specs.Chain.{Slotwise, Closure}
 use Rattle.chains.specs.Grouping.{Says, Each}
 use Rattle.chains.specs.Feasible.{Chosen}
+use Rattle.chains.specs.State.{number}
 use Rattle.chains.specs.Choice.{kid-codes, ChosenUp, ChosenDown}
 use Rattle.chains.specs.Numbering.{Told}
 use Rattle.chains.proofs.Says.{members-at}
@@ -25,8 +26,8 @@ use Rattle.chains.proofs.Sharing.{labels-told}
 use Rattle.book.specs.Format.{occ}
 use Rattle.ranks.specs.Entries.{labels, entry-bytes, none}
 use Rattle.tables.specs.Sets.{member}
-use Rattle.tables.specs.Entries.{Ranks, picked, Upward, Downward, Ranked, DownEntry}
-use Rattle.numbering.specs.Walk.{Tables, ranks, entry-of, given, label-in, places, started}
+use Rattle.tables.specs.Entries.{Ranks, picked, Downward, Ranked, DownEntry}
+use Rattle.numbering.specs.Walk.{Tables, ranks, given, label-in, places, started}
 use Rattle.numbering.specs.Places.{plausible-rank, feasible-rank, down-entry-of}
 use Rattle.numbering.proofs.Told.{read-rank, Visited, visited, roots-told, ranks-told}
 use Rattle.numbering.proofs.Listed.{label-of}
@@ -45,15 +46,12 @@ module _ (T : Tables) (e : ℕ) where
   label-byte : (s a : ℕ) → s * 8 + a < labels → getD (take labels bytes) (s * 8 + a) none ≡ label-in T e s a
   label-byte s a h = getD-take labels bytes (s * 8 + a) none h ∙ getD-part (e * entry-bytes) entry-bytes (T .down) (s * 8 + a) none (omega arith)
 
--- an occurrence that exists, as a byte
-abbrev byte : Occ → ℕ
-byte o = o .0 * 8 + o .1
-
+-- an occurrence that exists has its byte
 module _ (G : Grammar) (L : Lawful G) (p : ℕ) (there : p < G .prods) (o : Occ) (x : Exists G p o) where
-  byte-low : byte o < labels
+  byte-low : number o < labels
   byte-low = omega (arith, x .0, x .1, width-few G L p there (o .0) (x .0), L .few-kids p there)
 
-  byte-occ : occ (byte o) ≡ o
+  byte-occ : occ (number o) ≡ o
   byte-occ =
       let h : o .1 < 8 = omega (arith, x .1, width-few G L p there (o .0) (x .0)) in
       Σ-path (omega arith) (omega arith)
@@ -203,8 +201,8 @@ module _ {G : Grammar} (L : Lawful G) {s f : List ℕ} {T : Tables} (served : Se
         let l′ = byte-low G L q there o′ x′ in
         let b = byte-occ G L q there o x in
         let b′ = byte-occ G L q there o′ x′ in
-        let same = entry-read i q ds t (feasible-below i q ds t) .blocks .same (byte o) (byte o′) l l′ (subst (Exists G q) (sym b) x) (subst (Exists G q) (sym b′) x′) in
-        let alike = subst₂ (λ y z. (y ≡ z) ↔ Downward G q (feasible-code i) (kid-codes plausible-code i ds) (occ (byte o)) (occ (byte o′)))
+        let same = entry-read i q ds t (feasible-below i q ds t) .blocks .same (number o) (number o′) l l′ (subst (Exists G q) (sym b) x) (subst (Exists G q) (sym b′) x′) in
+        let alike = subst₂ (λ y z. (y ≡ z) ↔ Downward G q (feasible-code i) (kid-codes plausible-code i ds) (occ (number o)) (occ (number o′)))
         (label-byte T e (o .0) (o .1) l) (label-byte T e (o′ .0) (o′ .1) l′) same in
         subst₂ (λ y z. (label-of G T e o ≡ label-of G T e o′) ↔ Downward G q (feasible-code i) (kid-codes plausible-code i ds) y z) b b′ alike
 

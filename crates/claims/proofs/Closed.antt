@@ -1,7 +1,7 @@
 -- Sets with right tables are closed under the steps of both passes.
-use mathlib.Core.Path.{_≡_, refl, sym, ap, ap₂, _∙_, subst, subst₂}
+use mathlib.Core.Path.{_≡_, refl, sym, ap₂, subst, subst₂}
 use mathlib.Core.List.{List, [], _∷_}
-use Prim.Native.Nat.{ℕ, zero, suc, _<_}
+use Prim.Native.Nat.{ℕ, suc, _<_}
 use native.Mathlib.Omega.{arith}
 use lib.ListN.{length, getD}
 use Rattle.chains.specs.Grammar.{Grammar, Lawful, width}
@@ -10,10 +10,9 @@ use Rattle.chains.specs.Steps.{StepDown}
 use Rattle.chains.proofs.Says.{says-unique}
 use Rattle.chains.proofs.Plausible.{ClosedUp}
 use Rattle.chains.proofs.Feasible.{ClosedDown}
-use Rattle.ranks.specs.Entries.{labels, entry-bytes, none}
-use Rattle.tables.specs.Sets.{Has, member}
+use Rattle.tables.specs.Sets.{Has}
 use Rattle.tables.specs.Memory.{Placed}
-use Rattle.tables.specs.Entries.{Ranks, picked, Upward, Downward, Ranked, UpTable, DownTable}
+use Rattle.tables.specs.Entries.{Ranks, picked, Upward, Downward, UpTable, DownTable}
 use Rattle.tables.proofs.Members.{ranked-has, rank-of}
 
 -- members of the sets of the kinds ks, by their ranks

@@ -1,14 +1,13 @@
 -- DEMAND 2, the groups: equal numbers are chains.
-use mathlib.Core.Path.{_≡_, refl, sym, ap, _∙_, subst}
-use mathlib.Core.Logic.{_↔_}
-use mathlib.Core.List.{List, [], _∷_, _++_}
+use mathlib.Core.Path.{_≡_, sym, _∙_, subst}
+use mathlib.Core.List.{List, [], _∷_}
 use Prim.Native.Nat.{ℕ, _*_, _<_}
 use lib.ListN.{length, getD, drop}
 use Rattle.lists.specs.Refusals.{accepted}
 use Rattle.lists.proofs.Carries.{Carries, carries-whole}
 use Rattle.chains.specs.Grammar.{Occ, Grammar, Lawful}
-use Rattle.chains.specs.Tree.{Bush, size, flat, Kinded, Inst, Sub, Fitted}
-use Rattle.chains.specs.Chain.{Chain, RootChains, NodeChains}
+use Rattle.chains.specs.Tree.{Bush, size, flat, Kinded, Sub}
+use Rattle.chains.specs.Chain.{RootChains, NodeChains}
 use Rattle.chains.specs.Grouping.{Says}
 use Rattle.chains.specs.Choice.{ChosenUp, ChosenDown}
 use Rattle.chains.specs.Numbering.{Told, Numbered}
@@ -26,7 +25,7 @@ use Rattle.numbering.specs.Promise as numbering
 use Rattle.numbering.proofs.Listed.{label-of}
 use Rattle.numbering.proofs.InOrder.{next-at, next-last, walk-numbered}
 use Rattle.claims.specs.Build.{Taken}
-use Rattle.claims.specs.Groups.{RankOf, GroupsAreChains}
+use Rattle.claims.specs.Groups.{GroupsAreChains}
 use Rattle.claims.proofs.Served.{Served, built-lawful, built-serves}
 use Rattle.claims.proofs.Chosen.{code-of, kind-at, rise, plausible-below, feasible-below, fall, entries-told}
 

@@ -1,5 +1,5 @@
 -- DEMAND 2, the sets: what stands below a kind's count is what is plausible for it, and what is feasible.
-use mathlib.Core.Path.{_≡_, refl, sym, ap, _∙_, subst}
+use mathlib.Core.Path.{subst}
 use mathlib.Core.Logic.{_↔_}
 use mathlib.Core.List.{List}
 use Prim.Native.Nat.{ℕ, _*_, _≤_, _<_}
@@ -9,11 +9,8 @@ use Rattle.lists.specs.Refusals.{accepted}
 use Rattle.lists.proofs.Parts.{getD-part}
 use Rattle.lists.proofs.Places.{rising-at}
 use Rattle.chains.specs.Limits.{max-members}
-use Rattle.chains.specs.Plausible.{Plausible}
-use Rattle.chains.specs.Feasible.{Feasible}
 use Rattle.book.specs.Format.{grammar}
-use Rattle.tables.specs.Sets.{Has, member, members, Holds}
-use Rattle.tables.specs.Memory.{Placed}
+use Rattle.tables.specs.Sets.{Has, members, Holds}
 use Rattle.tables.specs.Promise.{Lent, BuildDue}
 use Rattle.tables.proofs.Members.{members-long, ranked-has, rank-of}
 use Rattle.tables.proofs.Holds.{holds-placed}

@@ -1,13 +1,13 @@
 -- DEMAND 3: a subtree may be replaced by another that groups its root's settings, by its own chains, in the same way, and nothing changes outside.
-use mathlib.Core.Path.{_≡_, refl, sym, ap, _∙_, subst}
-use mathlib.Core.Logic.{_⊎_, inl, inr, _↔_, Iff·symm, Iff·trans}
+use mathlib.Core.Path.{_≡_, sym, ap, _∙_, subst}
+use mathlib.Core.Logic.{inl, inr, _↔_, Iff·symm, Iff·trans}
 use mathlib.Core.List.{List, [], _∷_}
 use Prim.Native.Nat.{ℕ, _+_, _≤_, _<_}
 use native.Mathlib.Omega.{arith}
-use lib.ListN.{length, getD}
+use lib.ListN.{length}
 use Rattle.lists.specs.Refusals.{accepted}
 use Rattle.chains.specs.Grammar.{Grammar, Lawful}
-use Rattle.chains.specs.Tree.{Bush, size, flat, Kinded, Inst, Sub, Fitted}
+use Rattle.chains.specs.Tree.{Bush, size, Kinded, Inst, Sub, Fitted}
 use Rattle.chains.specs.Grouping.{Says}
 use Rattle.chains.specs.Replace.{Hole, plug, spot, Moves, Shifts, Interchange}
 use Rattle.chains.proofs.Says.{says-unique}
@@ -27,7 +27,7 @@ use Rattle.numbering.specs.Promise.{Lent, TreeOf, CallDue}
 use Rattle.numbering.specs.Places.{plausible-rank, feasible-rank, number-of}
 use Rattle.claims.specs.Build.{Taken, tables-of}
 use Rattle.claims.specs.Groups.{RankOf, GroupsAreChains}
-use Rattle.claims.specs.Replaced.{Replacement, Outside, OutsideSetting, Unchanged}
+use Rattle.claims.specs.Replaced.{Replacement, Outside, Unchanged}
 use Rattle.claims.proofs.Served.{Served, built-lawful, taken-whole, built-serves}
 use Rattle.claims.proofs.Demand2Groups.{groups-are-chains}
 

@@ -1,30 +1,27 @@
 -- The table of worked examples holds, row by row.
-use mathlib.Core.Path.{_≡_, refl, sym, ap, ap₂, _∙_, subst}
-use mathlib.Core.Logic.{_⊎_, inl, inr}
-use mathlib.Core.Bool.{Bool, true, false}
-use mathlib.Core.List.{List, [], _∷_, _++_, append-nil}
-use Prim.Native.Nat.{ℕ, zero, suc, _+_, _*_, _≤_, _<_}
+use mathlib.Core.Path.{_≡_, refl, sym, _∙_, subst}
+use mathlib.Core.Logic.{inl, inr}
+use mathlib.Core.List.{List, [], _∷_, append-nil}
+use Prim.Native.Nat.{ℕ, _≤_, _<_}
 use native.Mathlib.Omega.{arith}
 use lib.ListN.{length, getD, replicate, length-replicate}
-use Rattle.lists.specs.Rising.{Rising, single, step}
-use Rattle.lists.specs.Refusals.{Said, accepted, refused}
-use Rattle.chains.specs.Limits.{max-levels}
+use Rattle.lists.specs.Refusals.{accepted, refused}
 use Rattle.chains.specs.Grammar.{Grammar}
-use Rattle.chains.specs.Tree.{Bush, nil, grow, flat, Kinded, Shallow}
+use Rattle.chains.specs.Tree.{Bush, nil, grow}
 use Rattle.book.specs.Format.{entry, grammar}
 use Rattle.sheet.specs.Reading.{Node, due, Read, begun, further, settings-of}
 use Rattle.sheet.specs.Refusals as sheet
-use Rattle.sheet.specs.Stops.{Unknown, Unfit, Deep, Fault, unknown, unfit, deep, Stop}
-use Rattle.sheet.specs.Trees.{Drawn, Fits}
+use Rattle.sheet.specs.Stops.{Fault, unknown, unfit, deep, Stop}
+use Rattle.sheet.specs.Trees.{Drawn}
 use Rattle.sheet.proofs.Trees.{sheet-tree}
 use Rattle.sheet.proofs.Refusals.{stop-refused}
 use Rattle.ranks.specs.Entries.{choices, choice, up-start, down-start}
 use Rattle.tables.specs.Promise as tables
 use Rattle.tables.proofs.Promise.{build-once}
 use Rattle.numbering.specs.Walk.{ranks, places, numbered, unused, slot-labels, kid-labels, walk, root-entry, root-labels, started, group-numbers}
-use Rattle.numbering.specs.Promise.{Lent, TreeOf, Applies, of-sheet, short-counts, short-room, big-count, bad-up, bad-root, bad-down, Grouped, CallDue}
+use Rattle.numbering.specs.Promise.{Lent, CallDue}
 use Rattle.claims.specs.Build.{tables-of}
-use Rattle.claims.specs.Examples.{book, room, Row, grouped, table, Claim, AllHold}
+use Rattle.claims.specs.Examples.{book, room, grouped, table, Claim, AllHold}
 use Rattle.claims.proofs.Served.{taken-whole}
 use Rattle.claims.proofs.Never25.{no-row}
 use Rattle.claims.proofs.Figure.{book-free, left}
@@ -107,26 +104,16 @@ module _ (p q r : ℕ) (drawn : Drawn G (p ∷ q ∷ r ∷ []) (tower p q r)) (s
   abbrev lent : Lent
   lent = record { nodes = replicate (length nodes) 0; groups = replicate (length groups) 0 }
 
-  free-sheet : (n i : ℕ) → sheet.Applies book l n i → ⊥
-  free-sheet n i a =
+  sound : sheet.SheetDue book l (accepted (3 ∷ settings-of G l ∷ []))
+  sound =
       sheet-tree book l (3 ∷ settings-of G l ∷ []) .1
-      (record { sound = λ f a. book-free (f .0) (f .1) a; some = omega arith; few = omega arith; tree = tower p q r; drawn = drawn }, refl) .1 (n, i) a
-
-  before-25 : (n i t : ℕ) → n < 25 → Applies book l (tables-of left) lent n i t → ⊥
-  before-25 n i t h (of-sheet a) = free-sheet n i a
-  before-25 n i t h (short-counts (inl k)) = omega arith
-  before-25 n i t h (short-counts (inr k)) = omega arith
-  before-25 n i t h (short-room (inl k)) = omega (arith, nine, length-replicate {A = ℕ} (length nodes) 0)
-  before-25 n i t h (short-room (inr k)) = omega (arith, settings, ten, length-replicate {A = ℕ} (length groups) 0)
-  before-25 n i t h (big-count k) = omega arith
-  before-25 n i t h (bad-up u j q ds s k) = omega arith
-  before-25 n i t h (bad-root u k) = omega arith
-  before-25 n i t h (bad-down u j q ds s k) = omega arith
+      (record { sound = λ f a. book-free (f .0) (f .1) a; some = omega arith; few = omega arith; tree = tower p q r; drawn = drawn }, refl)
 
   grouped-so : Claim (grouped l (3 ∷ 10 ∷ count ∷ []) nodes groups)
   grouped-so m made due =
       subst (λ t. CallDue book l (tables-of t) lent (accepted (3 ∷ 10 ∷ count ∷ [])) (record { nodes = nodes; groups = groups })) (left-only m made due) (
-        no-row figure-built (taken-whole figure-built) before-25,
+        no-row figure-built (taken-whole figure-built) sound (omega (arith, nine, length-replicate {A = ℕ} (length nodes) 0))
+            (omega (arith, settings, ten, length-replicate {A = ℕ} (length groups) 0)),
         record {
           of = record { tree = tower p q r; kinded = drawn .kinded; reads = refl };
           nodes = rw nine (sym (append-nil (places G (tables-of left) (tower p q r) (started G (tables-of left) (tower p q r))) ∙ told));

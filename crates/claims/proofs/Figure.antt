@@ -1,25 +1,22 @@
 -- The article's Fig. 1: its book is accepted, and the memory that a build leaves.
-use mathlib.Core.Path.{_≡_, refl, sym, ap, _∙_, subst}
-use mathlib.Core.Logic.{_⊎_, inl, inr, _↔_}
-use mathlib.Core.Bool.{Bool, true, false}
-use mathlib.Core.List.{List, [], _∷_, _++_, List·Memᴰ, List·Memᴰ·head, List·Memᴰ·tail, List·Memᴰ·cases-cons, List·Memᴰ·not-nil}
-use Prim.Native.Nat.{ℕ, zero, suc, _+_, _-_, _*_, _/_, _%_, _≤_, _<_}
+use mathlib.Core.Path.{_≡_, refl}
+use mathlib.Core.Logic.{inl, inr}
+use mathlib.Core.Bool.{true}
+use mathlib.Core.List.{List, [], _∷_, _++_}
+use Prim.Native.Nat.{ℕ, zero, suc, _-_, _<_}
 use native.Mathlib.Omega.{arith}
-use lib.Dec.{ltb, eqb}
-use lib.ListN.{length, getD, take, drop, replicate, List·getD-eq-default}
-use Rattle.lists.specs.Pick.{pick}
-use Rattle.chains.specs.Grammar.{Grammar, Lawful}
+use lib.ListN.{length, getD, replicate}
 use Rattle.chains.specs.Labels.{relabel, joins, labels, index, add, canonFrom}
 use Rattle.chains.specs.Grouping.{unpack, pack}
-use Rattle.chains.specs.State.{pairs-from, code-on}
-use Rattle.book.specs.Format.{kinds, prods, entry, ties-of, grammar, Laid, Walks}
-use Rattle.book.specs.Refusals.{OutOfRange, Applies}
-use Rattle.book.proofs.Accepted.{Accepted, accepted-book}
-use Rattle.ranks.specs.Entries.{choices, choice, up-start, down-start, up-entry, none, entry-bytes}
+use Rattle.chains.specs.State.{pairs-from}
+use Rattle.book.specs.Format.{entry, ties-of, grammar}
+use Rattle.bookcheck.specs.Refusals.{OutOfRange, Applies}
+use Rattle.bookcheck.proofs.Accepted.{Accepted, accepted-book}
+use Rattle.ranks.specs.Entries.{choices, choice, up-start, down-start, none}
 use Rattle.tables.specs.Entries.{picked, UpTable, DownTable}
 use Rattle.tables.specs.State.{based}
 use Rattle.tables.specs.Promise.{Lent}
-use Rattle.claims.specs.Examples.{book, room}
+use Rattle.claims.specs.Examples.{book}
 use Rattle.claims.proofs.Tests.{all-below, all-in, all-ranks, same}
 use Rattle.claims.proofs.BookTest.{Fair, fair-sound, kind-test, kids-test, exists-test, target-test, sooner-test, rises-test, ties-test, headless-below}
 use Rattle.claims.proofs.Worked.{tie-all, tidy, rank-test, up-test, up-right, down-test, down-right}

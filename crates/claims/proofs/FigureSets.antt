@@ -1,16 +1,16 @@
 -- Fig. 1's plausible and feasible codes, by trees and chains: each of those listed is one, and there are no others. So a build of its book leaves what
 -- was worked out.
-use mathlib.Core.Path.{_≡_, refl, sym, ap, _∙_, subst}
-use mathlib.Core.Logic.{_⊎_, inl, inr, _↔_}
-use mathlib.Core.Bool.{Bool, true, false}
+use mathlib.Core.Path.{_≡_, refl, sym, _∙_}
+use mathlib.Core.Logic.{inl, inr, _↔_}
+use mathlib.Core.Bool.{Bool, true}
 use mathlib.Core.List.{List, [], _∷_, List·Memᴰ, List·Memᴰ·cases-cons, List·Memᴰ·not-nil}
-use Prim.Native.Nat.{ℕ, zero, suc, _+_, _*_, _≤_, _<_}
+use Prim.Native.Nat.{ℕ, zero, suc, _≤_, _<_}
 use native.Mathlib.Omega.{arith}
 use borrow.Author.Tests.{eqb-true, le-ltb}
 use lib.Dec.{ltb, eqb}
 use lib.ListN.{length, getD, List·getD-eq-default}
 use Rattle.lists.specs.Pick.{pick}
-use Rattle.lists.specs.Rising.{Rising, none, single, step}
+use Rattle.lists.specs.Rising.{Rising, single, step}
 use Rattle.lists.specs.Refusals.{accepted}
 use Rattle.chains.specs.Limits.{max-members}
 use Rattle.chains.specs.Grammar.{Grammar, Lawful, width}
@@ -22,14 +22,14 @@ use Rattle.chains.specs.Feasible.{Feasible, root, down}
 use Rattle.chains.proofs.Plausible.{plausible-sound, plausible-iff}
 use Rattle.chains.proofs.Feasible.{feasible-iff}
 use Rattle.book.specs.Format.{entry, ties-of, grammar}
-use Rattle.ranks.specs.Entries.{choices, up-start, down-start, entry-bytes}
+use Rattle.ranks.specs.Entries.{choices, up-start, down-start}
 use Rattle.tables.specs.Sets.{Has, member, members, Holds}
 use Rattle.tables.specs.Memory.{Placed}
 use Rattle.tables.specs.State.{based}
-use Rattle.tables.specs.Promise.{Lent, up-entries, down-entries, Applies, of-book, short-slice, over-plausible, over-feasible, short-up, short-down, Counted, Built, BuildDue}
+use Rattle.tables.specs.Promise.{up-entries, down-entries, Applies, of-book, short-slice, over-plausible, over-feasible, short-up, short-down, Counted, BuildDue}
 use Rattle.tables.proofs.Holds.{holds-counted, over-never, counted-once}
 use Rattle.tables.proofs.Entries.{up-entries-same, down-entries-same}
-use Rattle.claims.specs.Examples.{book, room}
+use Rattle.claims.specs.Examples.{book, S, X, Y, room}
 use Rattle.claims.proofs.Tests.{all-below, each-below}
 use Rattle.claims.proofs.Worked.{tie-all, up-state, up-says, down-state, down-says}
 use Rattle.claims.proofs.Closed.{closed-up, closed-down}
@@ -55,39 +55,23 @@ by-production : (p : ℕ) → p < 5 → (cs : List ℕ) → length cs ≡ length
     → Plausible G (G .left p) (code-on 0 (width G p 0) (up-state book-accepted p cs))
 by-production p h cs long ms = plausible-sound G lawful p (code-on 0 (width G p 0) (up-state book-accepted p cs)) h (cs, ms, up-says book-accepted p h cs long)
 
-module _ where
-  Y-576 : Plausible G 2 576
-  unfolding entry ties-of based tie-all joins relabel labels index add canonFrom pack unpack pairs-from
-  Y-576 = by-production 3 (omega arith) [] refl tt
-
-  Y-72 : Plausible G 2 72
-  unfolding entry ties-of based tie-all joins relabel labels index add canonFrom pack unpack pairs-from
-  Y-72 = by-production 4 (omega arith) [] refl tt
-
-  X-72 : Plausible G 1 72
-  unfolding entry ties-of based tie-all joins relabel labels index add canonFrom pack unpack pairs-from
-  X-72 = by-production 1 (omega arith) (72 ∷ []) refl (Y-72, tt)
-
-  X-576 : Plausible G 1 576
-  unfolding entry ties-of based tie-all joins relabel labels index add canonFrom pack unpack pairs-from
-  X-576 = by-production 1 (omega arith) (576 ∷ []) refl (Y-576, tt)
-
-  X-0 : Plausible G 1 0
-  unfolding entry ties-of based tie-all joins relabel labels index add canonFrom pack unpack pairs-from
-  X-0 = by-production 2 (omega arith) (72 ∷ []) refl (Y-72, tt)
-
-  S-0 : Plausible G 0 0
-  unfolding entry ties-of based tie-all joins relabel labels index add canonFrom pack unpack pairs-from
-  S-0 = by-production 0 (omega arith) (0 ∷ []) refl (X-0, tt)
-
-  S-8 : Plausible G 0 8
-  unfolding entry ties-of based tie-all joins relabel labels index add canonFrom pack unpack pairs-from
-  S-8 = by-production 0 (omega arith) (72 ∷ []) refl (X-72, tt)
+-- by the trees that the productions named here grow
+plausible-codes : All (Plausible G S) (0 ∷ 8 ∷ []) × All (Plausible G X) (0 ∷ 72 ∷ 576 ∷ []) × All (Plausible G Y) (72 ∷ 576 ∷ [])
+unfolding entry ties-of based tie-all joins relabel labels index add canonFrom pack unpack pairs-from
+plausible-codes =
+    let y-576 : Plausible G Y 576 = by-production 3 (omega arith) [] refl tt in
+    let y-72 : Plausible G Y 72 = by-production 4 (omega arith) [] refl tt in
+    let x-72 : Plausible G X 72 = by-production 1 (omega arith) (72 ∷ []) refl (y-72, tt) in
+    let x-576 : Plausible G X 576 = by-production 1 (omega arith) (576 ∷ []) refl (y-576, tt) in
+    let x-0 : Plausible G X 0 = by-production 2 (omega arith) (72 ∷ []) refl (y-72, tt) in
+    let s-0 : Plausible G S 0 = by-production 0 (omega arith) (0 ∷ []) refl (x-0, tt) in
+    let s-8 : Plausible G S 8 = by-production 0 (omega arith) (72 ∷ []) refl (x-72, tt) in
+    ((s-0, (s-8, tt)), (x-0, (x-72, (x-576, tt))), (y-72, (y-576, tt)))
 
 only-plausible : (k x : ℕ) → Has (left .plausible) (left .plausible-counts) k x → Plausible G k x
-only-plausible zero x m = each (Plausible G 0) (0 ∷ 8 ∷ []) (S-0, (S-8, tt)) x m
-only-plausible (suc zero) x m = each (Plausible G 1) (0 ∷ 72 ∷ 576 ∷ []) (X-0, (X-72, (X-576, tt))) x m
-only-plausible (suc (suc zero)) x m = each (Plausible G 2) (72 ∷ 576 ∷ []) (Y-72, (Y-576, tt)) x m
+only-plausible zero x m = each (Plausible G S) (0 ∷ 8 ∷ []) (plausible-codes .0) x m
+only-plausible (suc zero) x m = each (Plausible G X) (0 ∷ 72 ∷ 576 ∷ []) (plausible-codes .1) x m
+only-plausible (suc (suc zero)) x m = each (Plausible G Y) (72 ∷ 576 ∷ []) (plausible-codes .2) x m
 only-plausible (suc (suc (suc k))) x m = absurd (List·Memᴰ·not-nil m)
 
 -- ── each is feasible ──
@@ -95,35 +79,22 @@ by-child : (p : ℕ) (h : p < 5) (c : ℕ) (cs : List ℕ) (long : length cs ≡
     → Members (Plausible G) (G .kids p) cs → Feasible G (getD (G .kids p) j 0) (code-on (suc j) (width G p (suc j)) (down-state book-accepted p c cs))
 by-child p h c cs long j l f ms = down p j c cs h l f ms (down-says book-accepted p h cs long c (suc j) (omega arith))
 
-module _ where
-  feasible-X-0 : Feasible G 1 0
-  unfolding entry ties-of based tie-all joins relabel labels index add canonFrom pack unpack pairs-from
-  feasible-X-0 = by-child 0 (omega arith) 0 (0 ∷ []) refl 0 (omega arith) (root S-0) (X-0, tt)
-
-  feasible-X-72 : Feasible G 1 72
-  unfolding entry ties-of based tie-all joins relabel labels index add canonFrom pack unpack pairs-from
-  feasible-X-72 = by-child 0 (omega arith) 8 (72 ∷ []) refl 0 (omega arith) (root S-8) (X-72, tt)
-
-  feasible-X-576 : Feasible G 1 576
-  unfolding entry ties-of based tie-all joins relabel labels index add canonFrom pack unpack pairs-from
-  feasible-X-576 = by-child 0 (omega arith) 8 (576 ∷ []) refl 0 (omega arith) (root S-8) (X-576, tt)
-
-  feasible-Y-0 : Feasible G 2 0
-  unfolding entry ties-of based tie-all joins relabel labels index add canonFrom pack unpack pairs-from
-  feasible-Y-0 = by-child 1 (omega arith) 0 (72 ∷ []) refl 0 (omega arith) feasible-X-0 (Y-72, tt)
-
-  feasible-Y-72 : Feasible G 2 72
-  unfolding entry ties-of based tie-all joins relabel labels index add canonFrom pack unpack pairs-from
-  feasible-Y-72 = by-child 1 (omega arith) 72 (72 ∷ []) refl 0 (omega arith) feasible-X-72 (Y-72, tt)
-
-  feasible-Y-576 : Feasible G 2 576
-  unfolding entry ties-of based tie-all joins relabel labels index add canonFrom pack unpack pairs-from
-  feasible-Y-576 = by-child 1 (omega arith) 576 (576 ∷ []) refl 0 (omega arith) feasible-X-576 (Y-576, tt)
+feasible-codes : All (Feasible G S) (0 ∷ 8 ∷ []) × All (Feasible G X) (0 ∷ 72 ∷ 576 ∷ []) × All (Feasible G Y) (0 ∷ 72 ∷ 576 ∷ [])
+unfolding entry ties-of based tie-all joins relabel labels index add canonFrom pack unpack pairs-from
+feasible-codes =
+    let ((s-0, (s-8, u)), (x-0, (x-72, (x-576, v))), (y-72, (y-576, w))) = plausible-codes in
+    let fx-0 : Feasible G X 0 = by-child 0 (omega arith) 0 (0 ∷ []) refl 0 (omega arith) (root s-0) (x-0, tt) in
+    let fx-72 : Feasible G X 72 = by-child 0 (omega arith) 8 (72 ∷ []) refl 0 (omega arith) (root s-8) (x-72, tt) in
+    let fx-576 : Feasible G X 576 = by-child 0 (omega arith) 8 (576 ∷ []) refl 0 (omega arith) (root s-8) (x-576, tt) in
+    let fy-0 : Feasible G Y 0 = by-child 1 (omega arith) 0 (72 ∷ []) refl 0 (omega arith) fx-0 (y-72, tt) in
+    let fy-72 : Feasible G Y 72 = by-child 1 (omega arith) 72 (72 ∷ []) refl 0 (omega arith) fx-72 (y-72, tt) in
+    let fy-576 : Feasible G Y 576 = by-child 1 (omega arith) 576 (576 ∷ []) refl 0 (omega arith) fx-576 (y-576, tt) in
+    ((root s-0, (root s-8, tt)), (fx-0, (fx-72, (fx-576, tt))), (fy-0, (fy-72, (fy-576, tt))))
 
 only-feasible : (k x : ℕ) → Has (left .feasible) (left .feasible-counts) k x → Feasible G k x
-only-feasible zero x m = each (Feasible G 0) (0 ∷ 8 ∷ []) (root S-0, (root S-8, tt)) x m
-only-feasible (suc zero) x m = each (Feasible G 1) (0 ∷ 72 ∷ 576 ∷ []) (feasible-X-0, (feasible-X-72, (feasible-X-576, tt))) x m
-only-feasible (suc (suc zero)) x m = each (Feasible G 2) (0 ∷ 72 ∷ 576 ∷ []) (feasible-Y-0, (feasible-Y-72, (feasible-Y-576, tt))) x m
+only-feasible zero x m = each (Feasible G S) (0 ∷ 8 ∷ []) (feasible-codes .0) x m
+only-feasible (suc zero) x m = each (Feasible G X) (0 ∷ 72 ∷ 576 ∷ []) (feasible-codes .1) x m
+only-feasible (suc (suc zero)) x m = each (Feasible G Y) (0 ∷ 72 ∷ 576 ∷ []) (feasible-codes .2) x m
 only-feasible (suc (suc (suc k))) x m = absurd (List·Memᴰ·not-nil m)
 
 -- ── and there are no others ──

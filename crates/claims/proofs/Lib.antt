@@ -1,9 +1,16 @@
+-- The argument, from top to bottom.
+
+-- DEMAND 2: what an accepted build left serves its book's grammar, and its sets are the plausible and the feasible groupings
 pub mod Served
-pub mod Chosen
 pub mod Demand2Sets
+-- by tables that serve, the walk reads the ranks and the labels of a tree's chains; so settings share a number exactly where a chain joins them
+pub mod Chosen
 pub mod Demand2Groups
+-- and such a call is never refused with 25
 pub mod Never25
+-- DEMAND 3: replacing a subtree by one that groups its root's settings alike changes nothing outside
 pub mod Demand3
+-- THE WORKED EXAMPLES: tests that compute, and what they say of a book and of its tables; then the article's Fig. 1
 pub mod Tests
 pub mod BookTest
 pub mod Worked
@@ -11,5 +18,6 @@ pub mod Closed
 pub mod Figure
 pub mod FigureSets
 pub mod Examples
+-- UNIQUENESS: every public call has one outcome
 pub mod CallOnce
 pub mod Uniqueness

@@ -1,29 +1,28 @@
 -- A sheet call by what a build of its own book left is never refused with 25.
-use mathlib.Core.Path.{_≡_, refl, sym, ap, _∙_, subst}
-use mathlib.Core.Logic.{_⊎_, inl, inr}
+use mathlib.Core.Path.{_≡_, refl}
+use mathlib.Core.Logic.{inl, inr}
 use mathlib.Core.List.{List, [], _∷_, _++_}
 use Prim.Native.Nat.{ℕ, suc, _+_, _*_, _≤_, _<_}
 use native.Mathlib.Omega.{arith}
 use lib.ListN.{length, getD, drop}
-use Rattle.lists.specs.Refusals.{Said, accepted, refused}
+use Rattle.lists.specs.Refusals.{accepted, refused}
 use Rattle.lists.proofs.Carries.{Carries}
-use Rattle.chains.specs.Limits.{max-members}
 use Rattle.chains.specs.Grammar.{Grammar, Lawful}
-use Rattle.chains.specs.Tree.{Bush, size, count, flat, Kinded, Root, Sub}
+use Rattle.chains.specs.Tree.{Bush, Kinded, Sub}
 use Rattle.chains.proofs.Range.{root-exists}
 use Rattle.chains.proofs.WellKinded.{kinded-count}
 use Rattle.book.specs.Format.{grammar}
-use Rattle.book.specs.Refusals as book
 use Rattle.sheet.specs.Reading.{settings-of}
-use Rattle.sheet.specs.Refusals as sheet
+use Rattle.sheet.specs.Refusals.{SheetDue}
+use Rattle.sheet.proofs.Refusals.{Row, books, lengths, reads, row, book-low, fault-low}
 use Rattle.sheet.proofs.Trees.{sheet-tree}
-use Rattle.ranks.specs.Entries.{up-entry, down-entry, entry-bytes}
 use Rattle.ranks.proofs.Numbers.{up-entry-below, down-entry-below}
 use Rattle.tables.specs.Promise as tables
-use Rattle.numbering.specs.Walk.{Tables, ranks, places, started, group-numbers}
-use Rattle.numbering.specs.Places.{feasible-rank, down-entry-of}
-use Rattle.numbering.specs.Promise.{Lent, TreeOf, BigCount, BadUp, BadRoot, BadDown, entry-at, Applies, of-sheet, short-counts, short-room, big-count, bad-up, bad-root, bad-down, Grouped, CallDue}
+use Rattle.numbering.specs.Walk.{Tables, ranks, given, places, started, group-numbers}
+use Rattle.numbering.specs.Places.{feasible-rank}
+use Rattle.numbering.specs.Promise.{Lent, TreeOf, BigCount, BadUp, BadRoot, BadDown, entry-at, Applies, of-sheet, short-counts, short-room, big-count, bad-up, bad-root, bad-down, CallDue}
 use Rattle.claims.specs.Build.{Taken}
+use Rattle.claims.specs.Own.{Never25}
 use Rattle.claims.proofs.Served.{Served, start-count, built-lawful, built-serves}
 use Rattle.claims.proofs.Chosen.{ranks-below, in-place, here, started-below, handed, feasible-below}
 
@@ -59,7 +58,7 @@ module _ {G : Grammar} (L : Lawful G) {s f : List ℕ} {T : Tables} (served : Se
         let at = here L served tree kinded told itself i q ds t .entry in
         elim bad [ inl l ↦ omega (arith, served .down-room) | inr l ↦ kid-good (l .0) (l .1) (l .2) ]
       where
-        kid-good : (j : ℕ) → j < length (G .kids q) → getD (T .feasible-counts) (getD (G .kids q) j 0) 0 ≤ getD (T .down) (entry-at G T tree i * entry-bytes + 40 + j) 255 → ⊥
+        kid-good : (j : ℕ) → j < length (G .kids q) → getD (T .feasible-counts) (getD (G .kids q) j 0) 0 ≤ given T (entry-at G T tree i) j → ⊥
         kid-good j h l =
             let below = in-place L served tree kinded told itself i q ds t .1 in
             let (m, r) = root-exists ds (suc i) j (rw (kinded-count G ds (G .kids q) below) h) in
@@ -67,30 +66,22 @@ module _ {G : Grammar} (L : Lawful G) {s f : List ℕ} {T : Tables} (served : Se
             omega (arith, here L served tree kinded told itself i q ds t .handed j m r)
 
 -- ── which rows there are before 25 ──
-book-row : {b : List ℕ} {n p : ℕ} → book.Applies b n p → n < 9
-book-row (book.short h) = omega arith
-book-row (book.other-edition h) = omega arith
-book-row (book.out-of-range h) = omega arith
-book-row (book.not-laid h) = omega arith
-book-row (book.bad-kind k l h) = omega arith
-book-row (book.bad-kids p l h) = omega arith
-book-row (book.bad-ties p l h) = omega arith
-book-row (book.headless k l h) = omega arith
+sheet-row : {b l : List ℕ} {n p : ℕ} → Row b l n p → n < 24
+sheet-row (books a) = let h = book-low a in omega arith
+sheet-row (lengths e f h) = omega arith
+sheet-row (reads ds r f) = fault-low f
 
-sheet-row : {b l : List ℕ} {n p : ℕ} → sheet.Applies b l n p → n < 24
-sheet-row (sheet.of-book a) = let h = book-row a in omega arith
-sheet-row (sheet.bad-length h) = omega arith
-sheet-row (sheet.no-production i ds r h k) = omega arith
-sheet-row (sheet.other-kind i k v ds r h e) = omega arith
-sheet-row (sheet.ends-early d ds r) = omega arith
-sheet-row (sheet.bytes-left i r h) = omega arith
-sheet-row (sheet.too-deep i k v ds r h e) = omega arith
+-- a sheet that the sheet check accepts has a tree
+tree-of : (b l checked : List ℕ) → SheetDue b l (accepted checked) → TreeOf (grammar b) l
+tree-of b l checked sound =
+    let fits = sheet-tree b l checked .0 sound .0 in
+    record { tree = fits .tree; kinded = fits .drawn .kinded; reads = fits .drawn .bytes }
 
 -- a build of the book b left m, and T has it; n₀ is lent to a call with the sheet l
 module _ {b l : List ℕ} {m₀ m : tables.Lent} {entries : List ℕ} {T : Tables} {n₀ : Lent} (build : tables.BuildDue b m₀ (accepted entries) m) (taken : Taken (grammar b) m T) where
-  -- THEOREM: no row applies but those before 25
+  -- no row applies but those before 25
   pub below-25 : {n p t : ℕ} → Applies b l T n₀ n p t → n < 25
-  below-25 (of-sheet a) = let h = sheet-row a in omega arith
+  below-25 (of-sheet a) = let h = sheet-row (row a) in omega arith
   below-25 (short-counts h) = omega arith
   below-25 (short-room h) = omega arith
   below-25 (big-count h) = absurd (counts-few (built-lawful build) (built-serves build taken) h)
@@ -98,25 +89,32 @@ module _ {b l : List ℕ} {m₀ m : tables.Lent} {entries : List ℕ} {T : Table
   below-25 (bad-root u h) = absurd (root-good (built-lawful build) (built-serves build taken) (u .tree) (u .kinded) h)
   below-25 (bad-down u i q ds s h) = absurd (down-good (built-lawful build) (built-serves build taken) (u .tree) (u .kinded) i q ds s h)
 
-  -- THEOREM: whatever the call is refused with is below 25
-  pub never-25 : {n : Lent} {number place : ℕ} → CallDue b l T n₀ (refused number place) n → number < 25
-  never-25 ((t, first), e) = below-25 (first .0)
-
-  -- ── of the rows before 25 none applies ──
-  module _ (free : (n p t : ℕ) → n < 25 → Applies b l T n₀ n p t → ⊥) where
+  -- ── a sheet that the sheet check accepts, and room for what is told of it ──
+  module _ {checked : List ℕ} (sound : SheetDue b l (accepted checked)) (nodes-fit : 3 * length l ≤ length (n₀ .nodes))
+      (groups-fit : settings-of (grammar b) l ≤ length (n₀ .groups)) where
     pub no-row : (n p t : ℕ) → Applies b l T n₀ n p t → ⊥
-    no-row n p t a = free n p t (below-25 a) a
+    no-row n p t (of-sheet a) = sound .1 (n, p) a
+    no-row n p t (short-counts (inl h)) = omega (arith, taken .plausible-here)
+    no-row n p t (short-counts (inr h)) = omega (arith, taken .feasible-here)
+    no-row n p t (short-room (inl h)) = omega arith
+    no-row n p t (short-room (inr h)) = omega arith
+    no-row n p t (big-count h) = let z : 25 < 25 = below-25 (big-count h) in omega arith
+    no-row n p t (bad-up u i q ds s h) = let z : 25 < 25 = below-25 (bad-up u i q ds s h) in omega arith
+    no-row n p t (bad-root u h) = let z : 25 < 25 = below-25 (bad-root u h) in omega arith
+    no-row n p t (bad-down u i q ds s h) = let z : 25 < 25 = below-25 (bad-down u i q ds s h) in omega arith
 
-    its-tree : TreeOf (grammar b) l
-    its-tree =
-        let counts = length l ∷ settings-of (grammar b) l ∷ [] in
-        let fits = sheet-tree b l counts .0 (refl, λ f a. no-row (f .0) (f .1) (f .1) (of-sheet a)) .0 in
-        record { tree = fits .tree; kinded = fits .drawn .kinded; reads = fits .drawn .bytes }
-
-    -- THEOREM: then the call is accepted
-    pub accepted-with-own-tables : (counts : List ℕ) × (n : Lent) × CallDue b l T n₀ (accepted counts) n
+    -- so the call is accepted
+    accepted-with-own-tables : (counts : List ℕ) × (n : Lent) × CallDue b l T n₀ (accepted counts) n
     accepted-with-own-tables =
         let G = grammar b in
-        let f = its-tree .tree in
+        let u = tree-of b l checked sound in
+        let f = u .tree in
         let n : Lent = record { nodes = places G T f (started G T f) ++ drop (3 * length l) (n₀ .nodes); groups = group-numbers G T f .list ++ drop (settings-of G l) (n₀ .groups) } in
-        (length l ∷ settings-of G l ∷ group-numbers G T f .next ∷ [], n, (no-row, record { of = its-tree; nodes = refl; groups = refl; counted = refl }))
+        (length l ∷ settings-of G l ∷ group-numbers G T f .next ∷ [], n, (no-row, record { of = u; nodes = refl; groups = refl; counted = refl }))
+
+  -- THEOREM: by what a build of its own book left a sheet call is never refused with 25, and what the sheet check accepts it groups
+  pub never-25 : Never25 b l T n₀
+  never-25 = record {
+    refused-below = λ n number place ((t, first), e). below-25 (first .0);
+    accepts = λ checked sound nodes-fit groups-fit. accepted-with-own-tables sound nodes-fit groups-fit;
+  }

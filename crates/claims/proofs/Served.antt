@@ -1,27 +1,28 @@
 -- Tables that serve a grammar: the sets hold exactly what they should, the entries are those of the sets, and there is room for all of them.
-use mathlib.Core.Path.{_≡_, refl, sym, ap, ap₂, _∙_, subst}
-use mathlib.Core.List.{List, [], _∷_}
+use mathlib.Core.Path.{_≡_, refl, sym, ap, ap₂, _∙_}
+use mathlib.Core.List.{List, [], _∷_, _++_}
 use Prim.Native.Nat.{ℕ, suc, _+_, _*_, _≤_, _<_}
 use native.Mathlib.Omega.{arith}
-use lib.ListN.{length, getD}
+use lib.ListN.{length, getD, length-append, List·getD-append}
 use lib.Seq.{ext-getD}
 use Rattle.lists.specs.Part.{part}
-use Rattle.lists.specs.Refusals.{Said, accepted}
+use Rattle.lists.specs.Refusals.{accepted}
 use Rattle.lists.proofs.Parts.{length-part, getD-part}
 use Rattle.lists.proofs.Rising.{pinned}
 use Rattle.chains.specs.Limits.{max-members}
 use Rattle.chains.specs.Grammar.{Grammar, Lawful}
 use Rattle.chains.specs.Plausible.{Plausible}
-use Rattle.chains.specs.Feasible.{Feasible, root, down}
+use Rattle.chains.specs.Feasible.{Feasible, root}
+use Rattle.chains.proofs.Feasible.{feasible-start}
 use Rattle.book.specs.Format.{kinds, prods, grammar}
-use Rattle.book.specs.Refusals as book
-use Rattle.book.proofs.Accepted as accepted
+use Rattle.bookcheck.specs.Refusals as book
+use Rattle.bookcheck.proofs.Accepted as accepted
 use Rattle.ranks.specs.Entries.{choice, up-entry, down-entry, entry-bytes, none}
 use Rattle.ranks.proofs.Numbers.{up-entry-below, down-entry-below}
 use Rattle.tables.specs.Sets.{Has, member, members}
 use Rattle.tables.specs.Entries.{Ranks, picked, Downward, UpTable, DownEntry, DownTable}
 use Rattle.tables.specs.Memory.{Fine}
-use Rattle.tables.specs.Promise.{Lent, up-entries, down-entries, Applies, of-book, Built, BuildDue}
+use Rattle.tables.specs.Promise.{Lent, up-entries, down-entries, Applies, of-book, BuildDue}
 use Rattle.tables.proofs.Members.{members-long}
 use Rattle.tables.proofs.Memory.{fine-placed}
 use Rattle.tables.proofs.Holds.{holds-fine}
@@ -96,6 +97,22 @@ module _ {b : List ℕ} {m m′ : Lent} {cs : List ℕ} (due : BuildDue b m (acc
         up = λ e h. refl;
         down-room = rw (u .down-rest .long) (u .down-fits);
         down = λ i h. refl;
+      }
+
+  -- so has what begins with it, whatever tails follow
+  pub taken-tails : (c₁ d₁ u₁ w₁ : List ℕ)
+      → Taken (grammar b) m′ (record { plausible-counts = m′ .plausible-counts ++ c₁; feasible-counts = m′ .feasible-counts ++ d₁; up = m′ .up ++ u₁; down = m′ .down ++ w₁ })
+  taken-tails c₁ d₁ u₁ w₁ =
+      let w = taken-whole in
+      record {
+        plausible-here = omega (arith, w .plausible-here, length-append (m′ .plausible-counts) c₁);
+        plausible-counts = λ k h. List·getD-append (m′ .plausible-counts) c₁ 0 k (omega (arith, w .plausible-here));
+        feasible-here = omega (arith, w .feasible-here, length-append (m′ .feasible-counts) d₁);
+        feasible-counts = λ k h. List·getD-append (m′ .feasible-counts) d₁ 0 k (omega (arith, w .feasible-here));
+        up-room = omega (arith, w .up-room, length-append (m′ .up) u₁);
+        up = λ e h. List·getD-append (m′ .up) u₁ none e (omega (arith, w .up-room));
+        down-room = omega (arith, w .down-room, length-append (m′ .down) w₁);
+        down = λ i h. List·getD-append (m′ .down) w₁ none i (omega (arith, w .down-room));
       }
 
   module _ {T : Tables} (taken : Taken (grammar b) m′ T) where
@@ -174,11 +191,6 @@ module _ {b : List ℕ} {m m′ : Lent} {cs : List ℕ} (due : BuildDue b m (acc
         }
 
 -- ── the start has the same set twice ──
--- since it is no child, its feasible codes are its plausible ones
-pub feasible-start : (G : Grammar) → Lawful G → (k c : ℕ) → k ≡ G .start → Feasible G k c → Plausible G k c
-feasible-start G L k c e (root p) = p
-feasible-start G L k c e (down p j d cs hp hj f m s) = absurd (L .start-alone p j hp hj e)
-
 module _ {G : Grammar} (L : Lawful G) {s f : List ℕ} {T : Tables} (served : Served G s f T) where
   start-set : members s (T .plausible-counts) (G .start) ≡ members f (T .feasible-counts) (G .start)
   start-set =

@@ -1,9 +1,9 @@
 -- What the tables hold, worked out: the codes and labels of a production by tying its slots one after another, and a test of whole tables that computes.
-use mathlib.Core.Path.{_≡_, refl, sym, ap, _∙_, subst, subst₂}
-use mathlib.Core.Logic.{_⊎_, inl, inr, _↔_}
+use mathlib.Core.Path.{_≡_, refl, sym, ap, _∙_, subst}
+use mathlib.Core.Logic.{_↔_}
 use mathlib.Core.Bool.{Bool, true, false}
 use mathlib.Core.List.{List, [], _∷_}
-use Prim.Native.Nat.{ℕ, zero, suc, _+_, _*_, _≤_, _<_}
+use Prim.Native.Nat.{ℕ, suc, _+_, _*_, _≤_, _<_}
 use native.Mathlib.Omega.{arith}
 use borrow.Author.Tests.{ltb-true, eqb-true, le-ltb}
 use lib.Dec.{ltb, eqb}
@@ -12,19 +12,18 @@ use Rattle.lists.specs.Pick.{pick}
 use Rattle.lists.specs.Part.{part}
 use Rattle.chains.specs.Limits.{max-kids}
 use Rattle.chains.specs.Grammar.{Occ, Grammar, Lawful, slots, width}
-use Rattle.chains.specs.Chain.{Slotwise, Closure}
-use Rattle.chains.specs.Grouping.{Says, Alike, Each}
+use Rattle.chains.specs.Grouping.{Says, Alike}
 use Rattle.chains.specs.Feasible.{Chosen}
 use Rattle.chains.specs.Labels.{joins, index, add}
 use Rattle.chains.specs.State.{code-on, code-pairs}
-use Rattle.chains.proofs.Says.{members-long}
 use Rattle.chains.proofs.Step.{width-few}
 use Rattle.book.specs.Format.{prods, entry, grammar}
-use Rattle.book.proofs.Accepted.{Accepted}
+use Rattle.bookcheck.proofs.Accepted.{Accepted}
 use Rattle.ranks.specs.Entries.{up-entry, down-entry, labels, entry-bytes, none}
 use Rattle.tables.specs.Sets.{member}
-use Rattle.tables.specs.Entries.{Ranks, picked, Upward, Downward, Ranked, UpTable, Labelled, DownEntry, DownTable}
+use Rattle.tables.specs.Entries.{picked, Upward, Downward, Ranked, UpTable, Labelled, DownTable}
 use Rattle.tables.specs.State.{based, tidyFrom, tidied}
+use Rattle.tables.proofs.FillState.{picked-long}
 use Rattle.tables.proofs.StateEntry.{Showing, show-base, show-skip, show-tie, show-says, show-labelled, Below, below-at, below-all, chosen-at, chosen-all}
 use Rattle.claims.proofs.Tests.{and, and-true, all-below, each-below, all-ranks, each-ranks, same, same-true}
 
@@ -107,13 +106,6 @@ tidy-is (x ∷ l) seen = go (eqb x none) (tidy-is l)
     go false later = ap (λ (u : List ℕ). index x seen ∷ u) (later (add x seen))
 
 -- ── tables that are worked out so are right ──
-picked-long : (s c ks rs : List ℕ) → Ranks c ks rs → length (picked s ks rs) ≡ length ks
-unfolding picked
-picked-long s c [] [] h = refl
-picked-long s c [] (r ∷ rs) h = absurd h
-picked-long s c (k ∷ ks) [] h = absurd h
-picked-long s c (k ∷ ks) (r ∷ rs) h = ap suc (picked-long s c ks rs (h .1))
-
 -- r is below the count of k, and the member there is x
 unfoldable pub rank-test : (s c : List ℕ) (k x r : ℕ) → Bool
 rank-test s c k x r = and (ltb r (getD c k 0)) (eqb x (member s k r))
@@ -138,7 +130,7 @@ module _ (b : List ℕ) (s c : List ℕ) where
       let here = each-ranks c (grammar b .kids p) (up-test up p) rs (e p there) small in
       let cs = picked s (grammar b .kids p) rs in
       rank-true s c (width (grammar b) p 0) (grammar b .left p) (code-on 0 (width (grammar b) p 0) (up-state ok p cs)) 0 (getD up (up-entry (grammar b) c p rs) none)
-      (Upward (grammar b) p cs) (up-says ok p there cs (picked-long s c (grammar b .kids p) rs small)) here
+      (Upward (grammar b) p cs) (up-says ok p there cs (picked-long c s (grammar b .kids p) rs small)) here
 
   module _ (f d : List ℕ) where
     -- the bytes of the down entry of production p, the feasible rank u and the ranks rs
@@ -176,7 +168,7 @@ module _ (b : List ℕ) (s c : List ℕ) where
         let (e₃, e₄) = and-true ranks-same rest-same e₂ in
         let x = member f (grammar b .left p) u in
         let cs = picked s (grammar b .kids p) rs in
-        let long = picked-long s c (grammar b .kids p) rs small in
+        let long = picked-long c s (grammar b .kids p) rs small in
         record {
           blocks = subst (Labelled (grammar b) p (Downward (grammar b) p x cs)) (sym (tidy-is (state-of p u rs) []) ∙ same-true (tidy (state-of p u rs) []) (take labels (entry-of down p u rs)) e₁) (down-labels ok p there cs long x);
           ranks = λ j h. rank-true f d (width (grammar b) p (suc j)) (getD (grammar b .kids p) j 0) (code-on (suc j) (width (grammar b) p (suc j)) (state-of p u rs)) (suc j)

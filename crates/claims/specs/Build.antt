@@ -1,6 +1,5 @@
 -- What a sheet call is given after a build.
 use mathlib.Core.Path.{_≡_}
-use mathlib.Core.List.{List}
 use Prim.Native.Nat.{ℕ, _*_, _≤_, _<_}
 use lib.ListN.{length, getD}
 use Rattle.chains.specs.Grammar.{Grammar}

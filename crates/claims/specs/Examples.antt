@@ -1,5 +1,4 @@
 -- The worked examples of the paper that are proved from the definitions: one table, and what each of its rows claims.
-use mathlib.Core.Path.{_≡_}
 use mathlib.Core.Logic.{_↔_}
 use mathlib.Core.List.{List, [], _∷_, List·Memᴰ}
 use Prim.Native.Nat.{ℕ}

@@ -1,6 +1,8 @@
-pub mod Build
+-- What is guaranteed, in the words of the promises: demand 2 (sets, groups), demand 3, the worked examples, uniqueness.
 pub mod Sets
+pub mod Build
 pub mod Groups
+pub mod Own
 pub mod Replaced
 pub mod Examples
 pub mod Once

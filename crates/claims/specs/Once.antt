@@ -2,10 +2,9 @@
 use mathlib.Core.Path.{_≡_}
 use mathlib.Core.List.{List}
 use Prim.Native.Nat.{ℕ}
-use Rattle.lists.specs.Refusals.{Said}
-use Rattle.book.specs.declared.Checked.{Checked}
-use Rattle.book.specs.Answer as book-answer
-use Rattle.book.specs.Refusals.{BookDue}
+use Rattle.bookcheck.specs.declared.Checked.{Checked}
+use Rattle.bookcheck.specs.Answer as book-answer
+use Rattle.bookcheck.specs.Refusals.{BookDue}
 use Rattle.book.specs.Reading.{Index}
 use Rattle.sheet.specs.declared.SheetChecked.{SheetChecked}
 use Rattle.sheet.specs.Answer as sheet-answer
@@ -15,14 +14,19 @@ use Rattle.ranks.specs.declared.Plausible.{Plausible}
 use Rattle.ranks.specs.declared.Feasible.{Feasible}
 use Rattle.ranks.specs.declared.UpRead.{UpRead}
 use Rattle.ranks.specs.declared.DownRead.{DownRead}
-use Rattle.ranks.specs.Reads.{up-said, down-said, UpFinds, DownFinds, child-rank-at}
+use Rattle.ranks.specs.Reads.{up-said, down-said, UpFinds, DownFinds, child-rank-at, label-at}
+use Rattle.tables.specs.declared.Built.{Built}
+use Rattle.tables.specs.Answer as build-answer
 use Rattle.blocks.specs.Blocks.{Block, Size, FirstIn}
 use Rattle.tables.specs.Promise as tables
+use Rattle.numbering.specs.declared.Grouping.{Grouping}
+use Rattle.numbering.specs.Answer as call-answer
 use Rattle.numbering.specs.Walk.{Tables}
 use Rattle.numbering.specs.Promise as numbering
 
 pub record OneOutcome : Type 0 where
-  -- the book: its check, the places of its entries; every other accessor answers a number that its promise names
+  -- the book: its check; the places of its entries; of every other accessor (kinds, productions, start, settings, mask, left, arity, kid, kind_in, pairs,
+  -- to, from, next, slot, setting) the answer is the number that its promise names
   pub check-book : (b : List ℕ) (r s : Checked) → BookDue b (book-answer.said r) → BookDue b (book-answer.said s) → r ≡ s
   pub index : (b x y : List ℕ) → Index b x → Index b y → x ≡ y
   pub accessor : (x r s : ℕ) → r ≡ x → s ≡ x → r ≡ s
@@ -32,7 +36,8 @@ pub record OneOutcome : Type 0 where
   pub export-book : (b : List ℕ) (v w : ℕ) → Spoken (BookDue b) v → Spoken (BookDue b) w → v ≡ w
   pub export-sheet : (b l : List ℕ) (v w : ℕ) → Spoken (SheetDue b l) v → Spoken (SheetDue b l) w → v ≡ w
   -- the build, with six lent slices
-  pub build : (b : List ℕ) (m : tables.Lent) (a a′ : Said) (m₁ m₂ : tables.Lent) → tables.BuildDue b m a m₁ → tables.BuildDue b m a′ m₂ → (a ≡ a′) × (m₁ ≡ m₂)
+  pub build : (b : List ℕ) (m : tables.Lent) (r s : Built) (m₁ m₂ : tables.Lent) → tables.BuildDue b m (build-answer.said r) m₁ → tables.BuildDue b m (build-answer.said s) m₂
+      → (r ≡ s) × (m₁ ≡ m₂)
   -- blocks of a down entry
   pub occurrences : (down : List ℕ) (e x s t : ℕ) → Block down e x s → Block down e x t → s ≡ t
   pub block-size : (set n m : ℕ) → Size set n → Size set m → n ≡ m
@@ -41,7 +46,8 @@ pub record OneOutcome : Type 0 where
   pub read-up : (up : List ℕ) (e : ℕ) (r s : UpRead) → UpFinds up e (up-said r) → UpFinds up e (up-said s) → r ≡ s
   pub read-down : (down : List ℕ) (e : ℕ) (r s : DownRead) → DownFinds down e (down-said r) → DownFinds down e (down-said s) → r ≡ s
   pub child-rank : (down : List ℕ) (e j : ℕ) (r s : Feasible) → r .0 ≡ child-rank-at down e j → s .0 ≡ child-rank-at down e j → r ≡ s
+  pub label : (down : List ℕ) (e o x y : ℕ) → x ≡ label-at down e o → y ≡ label-at down e o → x ≡ y
   pub started : (p : Plausible) (r s : Feasible) → r .0 ≡ p .0 → s .0 ≡ p .0 → r ≡ s
   -- the sheet call, with two lent slices
-  pub group-sheet : (b l : List ℕ) (T : Tables) (m : numbering.Lent) (a a′ : Said) (m₁ m₂ : numbering.Lent)
-      → numbering.CallDue b l T m a m₁ → numbering.CallDue b l T m a′ m₂ → (a ≡ a′) × (m₁ ≡ m₂)
+  pub group-sheet : (b l : List ℕ) (T : Tables) (m : numbering.Lent) (r s : Grouping) (m₁ m₂ : numbering.Lent)
+      → numbering.CallDue b l T m (call-answer.said r) m₁ → numbering.CallDue b l T m (call-answer.said s) m₂ → (r ≡ s) × (m₁ ≡ m₂)

@@ -13,7 +13,7 @@ use Rattle.chains.specs.Limits.{max-kids, max-nodes}
 use Rattle.chains.specs.Grammar.{Grammar}
 use Rattle.book.specs.Format.{grammar, kinds, prods, entry, left-at, arity-at}
 use Rattle.book.specs.Reading.{Index, settings-of, kid-at}
-use Rattle.book.proofs.Accepted.{Accepted, place-read, settings-read, arity-read, kid-read}
+use Rattle.bookcheck.proofs.Accepted.{Accepted, place-read, settings-read, arity-read, kid-read}
 use Rattle.ranks.specs.declared.Plausible.{Plausible}
 use Rattle.ranks.specs.Reads.{numbers}
 use Rattle.ranks.proofs.Padded.{CountsPadded}

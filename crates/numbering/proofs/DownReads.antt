@@ -17,20 +17,20 @@ use Rattle.chains.proofs.Range.{root-in}
 use Rattle.chains.proofs.Nodes.{sub-in, parent}
 use Rattle.chains.proofs.WellKinded.{sub-kinded, root-kids, one-tree}
 use Rattle.book.specs.Format.{grammar, prods}
-use Rattle.book.proofs.Accepted.{Accepted}
+use Rattle.bookcheck.proofs.Accepted.{Accepted}
 use Rattle.ranks.specs.Entries.{down-start, down-entry, labels, entry-bytes, none}
 use Rattle.ranks.specs.Reads.{Found, found, past, down-number, DownFinds, down-said, child-rank-at}
 use Rattle.ranks.specs.declared.DownRead.{DownRead}
 use Rattle.ranks.specs.declared.DownRead.the-variants as read
 use Rattle.ranks.proofs.Padded.{CountsPadded, RanksPadded, down-number-is}
-use Rattle.numbering.specs.Walk.{Tables, ranks, given}
+use Rattle.numbering.specs.Walk.{Tables, tables, ranks, given}
 use Rattle.numbering.specs.Promise.{TreeOf, BadDown, entry-at}
 use Rattle.numbering.specs.Visits.{Visit, entry-in, visit}
-use Rattle.numbering.specs.Parts.{tables, Sheeted, child-at, Children, Kindred, Ended, Ranked, HandedIs, HandedDown, RightRank, DownNodeIs, DownNodeRead, NoBadDown, DownIs, DownReads}
+use Rattle.numbering.specs.Parts.{Sheeted, child-at, Children, Kindred, Ended, Ranked, HandedIs, HandedDown, RightRank, DownNodeIs, DownNodeRead, NoBadDown, DownIs, DownReads}
 use Rattle.numbering.specs.declared.downward.DownNode.{DownNode}
 use Rattle.numbering.specs.declared.downward.DownNode.the-variants as node
-use Rattle.numbering.specs.declared.Reads.{Reads}
-use Rattle.numbering.specs.declared.Reads.the-variants.{All, Bad}
+use Rattle.numbering.specs.declared.upward.Reads.{Reads}
+use Rattle.numbering.specs.declared.upward.Reads.the-variants.{All, Bad}
 use Rattle.numbering.proofs.Children.{Opened}
 use Rattle.numbering.proofs.Journey.{visited, child-visited, entry-visited}
 use Rattle.numbering.proofs.Standing.{stands, child-root, children-of, ended-below, ranked-below, kin-long, kin-padded}

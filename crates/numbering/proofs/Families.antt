@@ -15,10 +15,10 @@ use Rattle.chains.specs.Grammar.{Grammar}
 use Rattle.book.specs.Format.{grammar, prods, kinds}
 use Rattle.book.specs.Reading as book
 use Rattle.book.specs.Reading.{kid-at}
-use Rattle.book.proofs.Accepted.{Accepted, settings-read}
+use Rattle.bookcheck.proofs.Accepted.{Accepted, settings-read}
 use Rattle.sheet.specs.Reading.{settings-of}
-use Rattle.numbering.specs.Walk.{Tables, Held, held, numbered, unused, slot-labels, kid-labels}
-use Rattle.numbering.specs.Parts.{tables, child-at, Children}
+use Rattle.numbering.specs.Walk.{Tables, tables, Held, held, numbered, unused, slot-labels, kid-labels}
+use Rattle.numbering.specs.Parts.{child-at, Children}
 use Rattle.numbering.specs.Giving.{labels-known, Firsts, Holding, Slot, kinds-width, Written, Kinds, Family}
 use Rattle.numbering.proofs.Labelled.{numbered-long, holding, numbered-append, unused-append, slot-labels-long, kid-labels-long}
 use Rattle.numbering.proofs.Slots.{holding-append}

@@ -7,8 +7,7 @@ use lib.ListN.{length, getD, take, drop}
 use Rattle.lists.specs.Part.{part}
 use Rattle.chains.specs.Grammar.{Grammar}
 use Rattle.sheet.specs.Reading.{settings-of}
-use Rattle.numbering.specs.Walk.{Held, held, numbered, unused, slot-labels, kid-labels, own-held}
-use Rattle.numbering.specs.Parts.{tables}
+use Rattle.numbering.specs.Walk.{tables, Held, held, numbered, unused, slot-labels, kid-labels, own-held}
 use Rattle.numbering.specs.Giving.{labels-known, Holding, Held-own, Written, Family, Instance}
 use Rattle.numbering.proofs.Holders.{holding-none}
 

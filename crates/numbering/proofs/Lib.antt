@@ -20,3 +20,10 @@ pub mod UpReads
 pub mod DownReads
 pub mod Instances
 pub mod Walking
+pub mod Counted
+pub mod Filling
+pub mod Turns
+pub mod Due
+pub mod Choosing
+pub mod Measured
+pub mod Settled

@@ -15,8 +15,7 @@ use Rattle.lists.proofs.Carry.{placed}
 use Rattle.chains.specs.Limits.{max-kids, max-settings}
 use Rattle.ranks.specs.Entries.{labels, entry-bytes, none}
 use Rattle.ranks.specs.Reads.{label-at}
-use Rattle.numbering.specs.Walk.{Tables, label-in, Held, holder, holds, held, numbered, unused, slot-labels}
-use Rattle.numbering.specs.Parts.{tables}
+use Rattle.numbering.specs.Walk.{Tables, tables, label-in, Held, holder, holds, held, numbered, unused, slot-labels}
 use Rattle.numbering.specs.Giving.{labels-known, Holding, Held-one, Held-own, Slot}
 use Rattle.numbering.proofs.Labelled.{numbered-long, holding, numbered-append, unused-append, unused-bounds, slot-labels-long}
 use Rattle.numbering.proofs.Holders.{holding-taken}

@@ -12,7 +12,7 @@ use Rattle.chains.proofs.Nodes.{flat-length, sub-all, sub-flat, sub-in}
 use Rattle.chains.proofs.WellKinded.{sub-kinded}
 use Rattle.chains.proofs.Read.{one-forest}
 use Rattle.book.specs.Format.{grammar, prods}
-use Rattle.book.proofs.Accepted.{Accepted}
+use Rattle.bookcheck.proofs.Accepted.{Accepted}
 use Rattle.sheet.specs.Reading.{settings-of}
 use Rattle.numbering.specs.Promise.{TreeOf}
 

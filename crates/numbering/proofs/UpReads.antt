@@ -11,21 +11,21 @@ use Rattle.chains.specs.Limits.{max-kids, max-nodes}
 use Rattle.chains.specs.Tree.{Bush, size, Kinded, Sub}
 use Rattle.chains.proofs.Nodes.{sub-in, sub-one}
 use Rattle.book.specs.Format.{grammar, prods}
-use Rattle.book.proofs.Accepted.{Accepted}
+use Rattle.bookcheck.proofs.Accepted.{Accepted}
 use Rattle.ranks.specs.Entries.{up-start, up-entry, none}
 use Rattle.ranks.specs.Reads.{Found, found, past, up-number, UpFinds, up-said}
 use Rattle.ranks.specs.declared.Plausible.{Plausible}
 use Rattle.ranks.specs.declared.UpRead.{UpRead}
 use Rattle.ranks.specs.declared.UpRead.the-variants as read
 use Rattle.ranks.proofs.Padded.{CountsPadded, RanksPadded, up-number-is}
-use Rattle.numbering.specs.Walk.{Tables, ranks}
+use Rattle.numbering.specs.Walk.{Tables, tables, ranks}
 use Rattle.numbering.specs.Promise.{TreeOf, BadUp}
 use Rattle.numbering.specs.Visits.{rank-of}
-use Rattle.numbering.specs.Parts.{tables, Sheeted, Children, Kindred, Ended, Ranked, NoBadUp, UpNodeIs, UpNodeRead, UpIs, UpReads}
+use Rattle.numbering.specs.Parts.{Sheeted, Children, Kindred, Ended, Ranked, NoBadUp, UpNodeIs, UpNodeRead, UpIs, UpReads}
 use Rattle.numbering.specs.declared.upward.UpNode.{UpNode}
 use Rattle.numbering.specs.declared.upward.UpNode.the-variants as node
-use Rattle.numbering.specs.declared.Reads.{Reads}
-use Rattle.numbering.specs.declared.Reads.the-variants.{All, Bad}
+use Rattle.numbering.specs.declared.upward.Reads.{Reads}
+use Rattle.numbering.specs.declared.upward.Reads.the-variants.{All, Bad}
 use Rattle.numbering.proofs.Children.{Opened}
 use Rattle.numbering.proofs.Standing.{children-of, ended-below, ranked-below, kin-long, kin-padded, kin-end}
 use Rattle.numbering.proofs.Trees.{tree-size, Node, node-at}

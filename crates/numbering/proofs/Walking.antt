@@ -18,13 +18,13 @@ use Rattle.chains.proofs.Range.{root-in}
 use Rattle.chains.proofs.Nodes.{parent, sub-in, sub-child}
 use Rattle.chains.proofs.WellKinded.{sub-kinded, root-kids, root-kind, one-tree}
 use Rattle.book.specs.Format.{grammar, prods}
-use Rattle.book.proofs.Accepted.{Accepted}
+use Rattle.bookcheck.proofs.Accepted.{Accepted}
 use Rattle.sheet.specs.Reading.{settings-of}
 use Rattle.sheet.proofs.Reading.{settings-next}
-use Rattle.numbering.specs.Walk.{Tables, numbered, unused, slot-labels, kid-labels, own-held, root-labels, group-numbers}
+use Rattle.numbering.specs.Walk.{Tables, tables, numbered, unused, slot-labels, kid-labels, own-held, root-labels, group-numbers}
 use Rattle.numbering.specs.Promise.{TreeOf}
 use Rattle.numbering.specs.Visits.{Visit, nowhere, entry-in, held-in, labels-in, handed, after, journey, visit}
-use Rattle.numbering.specs.Parts.{tables, Sheeted, child-at, Children, Ended}
+use Rattle.numbering.specs.Parts.{Sheeted, child-at, Children, Ended}
 use Rattle.numbering.specs.Giving.{labels-known, Holding, Firsts, Slot, kinds-width, Written, Kinds, Instance, Entered, Walkable, Given}
 use Rattle.numbering.proofs.Labelled.{numbered-long, slot-labels-long}
 use Rattle.numbering.proofs.Holders.{holding-none}

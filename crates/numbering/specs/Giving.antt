@@ -11,10 +11,10 @@ use Rattle.chains.specs.Grammar.{Grammar}
 use Rattle.chains.specs.Tree.{Bush, size}
 use Rattle.book.specs.Format.{grammar}
 use Rattle.sheet.specs.Reading.{settings-of}
-use Rattle.numbering.specs.Walk.{Tables, Held, holder, holds, held, numbered, unused, slot-labels, kid-labels, own-held, group-numbers}
-use Rattle.numbering.specs.Promise.{TreeOf}
+use Rattle.numbering.specs.Walk.{Tables, tables, Held, holder, holds, held, numbered, unused, slot-labels, kid-labels, own-held, group-numbers}
+use Rattle.numbering.specs.Promise.{TreeOf, lent, Grouped}
 use Rattle.numbering.specs.Visits.{entry-in, visit}
-use Rattle.numbering.specs.Parts.{tables, Ended, child-at}
+use Rattle.numbering.specs.Parts.{Ended, child-at, Chosen}
 
 -- the three places of each of n nodes, from node i on
 unfoldable pub rows : List ℕ → List ℕ → List ℕ → ℕ → ℕ → List ℕ
@@ -126,3 +126,8 @@ pub record Given (b l w ends entries g g′ : List ℕ) (r : ℕ) : Type 0 where
   pub all : (t : TreeOf (grammar b) l) (c d u : List ℕ) → Ended (t .tree) 0 0 ends → Entered (grammar b) (tables c d u w) (t .tree) entries
       → (r ≡ group-numbers (grammar b) (tables c d u w) (t .tree) .next)
       × (g′ ≡ group-numbers (grammar b) (tables c d u w) (t .tree) .list ++ drop (settings-of (grammar b) l) g)
+
+-- what is written once the choice is made
+pub record Filled (b l w plausible ends feasible entries n g n′ g′ : List ℕ) (r : ℕ) : Type 0 where
+  pub all : (t : TreeOf (grammar b) l) (c d u : List ℕ) → Chosen (grammar b) (tables c d u w) (t .tree) plausible ends feasible entries
+      → Grouped (grammar b) l (tables c d u w) (lent n g) (lent n′ g′) (length l ∷ settings-of (grammar b) l ∷ r ∷ [])

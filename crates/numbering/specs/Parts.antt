@@ -11,21 +11,18 @@ use Rattle.chains.specs.Grammar.{Grammar}
 use Rattle.chains.specs.Tree.{Bush, size, Kinded, Sub}
 use Rattle.book.specs.Format.{grammar, prods}
 use Rattle.book.specs.Reading.{Index}
-use Rattle.book.proofs.Accepted.{Accepted}
+use Rattle.bookcheck.proofs.Accepted.{Accepted}
 use Rattle.ranks.specs.Entries.{up-start, down-start}
 use Rattle.ranks.specs.Reads.{child-rank-at}
-use Rattle.numbering.specs.Walk.{Tables, started}
+use Rattle.numbering.specs.Walk.{Tables, tables, started}
 use Rattle.numbering.specs.Promise.{TreeOf, BadUp, BadRoot, BadDown, entry-at}
 use Rattle.numbering.specs.Visits.{rank-of, entry-in, visit}
 use Rattle.numbering.specs.declared.upward.UpNode.{UpNode}
 use Rattle.numbering.specs.declared.upward.UpNode.the-variants as up
 use Rattle.numbering.specs.declared.downward.DownNode.{DownNode}
 use Rattle.numbering.specs.declared.downward.DownNode.the-variants as down
-use Rattle.numbering.specs.declared.Reads.{Reads}
-use Rattle.numbering.specs.declared.Reads.the-variants.{All, Bad}
-
-abbrev pub tables : List ℕ → List ℕ → List ℕ → List ℕ → Tables
-tables c d u w = record { plausible-counts = c; feasible-counts = d; up = u; down = w }
+use Rattle.numbering.specs.declared.upward.Reads.{Reads}
+use Rattle.numbering.specs.declared.upward.Reads.the-variants.{All, Bad}
 
 -- an accepted book, with the places of its entries
 pub record Indexed (b places : List ℕ) : Type 0 where
@@ -157,6 +154,8 @@ ChoiceIs G T f plausible ends feasible entries (Bad p) =
     (t : ℕ) × Fails G T f (size f) p t × ((p′ t′ : ℕ) → t′ < t → Fails G T f (size f) p′ t′ → ⊥)
 
 pub record Choice (b l c d u w plausible ends feasible entries : List ℕ) (r : Reads) : Type 0 where
+  pub plausible-long : length plausible ≡ max-nodes
+  pub ends-long : length ends ≡ max-nodes
   pub feasible-long : length feasible ≡ max-nodes
   pub entries-long : length entries ≡ max-nodes
   pub case : (t : TreeOf (grammar b) l) → ChoiceIs (grammar b) (tables c d u w) (t .tree) plausible ends feasible entries r

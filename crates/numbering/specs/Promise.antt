@@ -21,6 +21,9 @@ pub record Lent : Type 0 where
   pub nodes : List ℕ
   pub groups : List ℕ
 
+abbrev pub lent : List ℕ → List ℕ → Lent
+lent n g = record { nodes = n; groups = g }
+
 -- the tree of the sheet l
 pub record TreeOf (G : Grammar) (l : List ℕ) : Type 0 where
   pub tree : Bush

@@ -17,6 +17,9 @@ pub record Tables : Type 0 where
   pub up : List ℕ
   pub down : List ℕ
 
+abbrev pub tables : List ℕ → List ℕ → List ℕ → List ℕ → Tables
+tables c d u w = record { plausible-counts = c; feasible-counts = d; up = u; down = w }
+
 -- the plausible ranks of a forest's roots, each read from the up table by its children's
 unfoldable pub ranks : Grammar → Tables → Bush → List ℕ
 ranks G T nil = []

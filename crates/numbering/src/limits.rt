@@ -9,3 +9,6 @@ pub const MEMBERS: u8 = 64;
 
 // A label is any byte.
 pub const LABELS: usize = 256;
+
+// Places of the node slice for each node: plausible rank, feasible rank, down entry.
+pub const PLACES: usize = 3;

@@ -6,7 +6,6 @@ ghost use Rattle.chains.specs.Limits.{max-nodes};
 ghost use Rattle.book.specs.Format.{kinds, prods, grammar};
 ghost use Rattle.ranks.specs.Entries.{up-start};
 ghost use Rattle.numbering.specs.Parts.{Indexed, Sheeted, Children, UpNodeRead, UpReads};
-use super::Reads;
 use super::kin::kid_counts;
 use super::kin::kin_of;
 use super::limits::NODES;
@@ -15,6 +14,12 @@ use super::starts::up_starts;
 use super::wide;
 use ranks::Plausible;
 use ranks::UpRead;
+
+// Whether every read is good, or the node where the first bad one is.
+pub enum Reads {
+    All,
+    Bad(u16),
+}
 
 // What is read at a node: its rank and where its subtree ends; or an entry past its slice, or a rank not below its count.
 pub enum UpNode {

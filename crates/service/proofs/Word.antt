@@ -6,8 +6,8 @@ use native.Mathlib.Omega.{arith}
 use Rattle.lists.specs.Refusals.{Said, accepted, refused}
 use Rattle.lists.proofs.Refusals.{due-once}
 use Rattle.book.specs.Format.{kinds, prods}
-use Rattle.book.specs.Refusals as book
-use Rattle.book.proofs.Once.{rows-orderly}
+use Rattle.bookcheck.specs.Refusals as book
+use Rattle.bookcheck.proofs.Once.{rows-orderly}
 use Rattle.sheet.specs.Refusals as sheet
 use Rattle.sheet.proofs.Once as sheet-once
 use Rattle.sheet.proofs.Refusals.{fault-high, Row, books, lengths, reads, row}

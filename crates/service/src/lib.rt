@@ -2,10 +2,10 @@
 // include/unchancyra.h has the contract in words.
 ghost use mathlib.Core.Path.{_≡_};
 ghost use Prim.Native.Nat.{_+_, _*_};
-ghost use Rattle.book.specs.Refusals.{BookDue};
+ghost use Rattle.bookcheck.specs.Refusals.{BookDue};
 ghost use Rattle.sheet.specs.Refusals.{SheetDue};
 ghost use Rattle.service.specs.Word.{Spoken};
-use book::Checked;
+use bookcheck::Checked;
 use sheet::SheetChecked;
 
 fn code(number: u8, place: u16) -> u64
@@ -18,7 +18,7 @@ fn code(number: u8, place: u16) -> u64
 pub extern "C" fn unchancyra_check_book(book: &[u8]) -> u64
     ensures { λ r. ⌜ Spoken (BookDue (now (book .entry))) r ⌝ }
 {
-    match book::check_book(book) {
+    match bookcheck::check_book(book) {
         Checked::Accepted {
             kinds: _,
             productions: _,

@@ -10,7 +10,7 @@ use Rattle.chains.specs.Limits.{max-settings}
 use Rattle.chains.specs.Grammar.{Grammar}
 use Rattle.chains.specs.Tree.{Bush}
 use Rattle.book.specs.Format.{grammar, kinds, prods}
-use Rattle.book.proofs.Accepted.{Accepted, accepted-book}
+use Rattle.bookcheck.proofs.Accepted.{Accepted, accepted-book}
 use Rattle.sheet.specs.Reading.{settings-of}
 use Rattle.sheet.specs.Refusals.{SheetDue}
 use Rattle.sheet.specs.Trees.{Sound, Drawn, Fits}

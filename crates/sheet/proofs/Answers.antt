@@ -10,11 +10,11 @@ use Rattle.lists.specs.Refusals.{refused}
 use Rattle.chains.specs.Limits.{max-nodes, max-levels}
 use Rattle.book.specs.Format.{grammar, start}
 use Rattle.book.specs.Reading.{told}
-use Rattle.book.specs.Refusals.{BookDue}
-use Rattle.book.specs.Answer.{said as book-said}
-use Rattle.book.proofs.Accepted.{told-prods}
-use Rattle.book.specs.declared.Checked as book
-use Rattle.book.specs.declared.Checked.the-variants as book-answer
+use Rattle.bookcheck.specs.Refusals.{BookDue}
+use Rattle.bookcheck.specs.Answer.{said as book-said}
+use Rattle.bookcheck.proofs.Accepted.{told-prods}
+use Rattle.bookcheck.specs.declared.Checked as book
+use Rattle.bookcheck.specs.declared.Checked.the-variants as book-answer
 use Rattle.sheet.specs.Answer.{said}
 use Rattle.sheet.specs.Reading.{Read, begun, settings-of}
 use Rattle.sheet.specs.Refusals.{SheetDue}

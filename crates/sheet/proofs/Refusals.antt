@@ -11,7 +11,7 @@ use Rattle.lists.specs.Refusals.{accepted, refused, Sooner}
 use Rattle.chains.specs.Limits.{max-nodes}
 use Rattle.chains.specs.Grammar.{Grammar}
 use Rattle.book.specs.Format.{grammar}
-use Rattle.book.specs.Refusals as book
+use Rattle.bookcheck.specs.Refusals as book
 use Rattle.sheet.specs.Reading.{Node, Read, settings-of}
 use Rattle.sheet.specs.Refusals.{Applies, of-book, bad-length, no-production, other-kind, ends-early, bytes-left, too-deep, turn, SheetDue}
 use Rattle.sheet.specs.Stops.{Fault, unknown, unfit, deep, Stop}

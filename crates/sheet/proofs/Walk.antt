@@ -9,7 +9,7 @@ use lib.Seq.{drop-cons, drop-length}
 use Rattle.chains.specs.Limits.{max-settings, max-levels}
 use Rattle.book.specs.Format.{grammar, left-at, arity-at, entry}
 use Rattle.book.specs.Reading.{told, settings-of, kid-at, Index}
-use Rattle.book.proofs.Accepted.{told-prods, settings-read, place-read, arity-read, kid-read}
+use Rattle.bookcheck.proofs.Accepted.{told-prods, settings-read, place-read, arity-read, kid-read}
 use Rattle.sheet.specs.Reading.{Node, due, Read, further}
 use Rattle.sheet.specs.Stops.{Stop}
 use Rattle.sheet.specs.Walk.{Position, Standing, Awaited, Fit, At, Looked, Past, Walked}

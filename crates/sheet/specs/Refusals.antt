@@ -10,7 +10,7 @@ use Rattle.lists.specs.Refusals.{Said, Due}
 use Rattle.chains.specs.Limits.{max-nodes, max-levels}
 use Rattle.chains.specs.Grammar.{Grammar}
 use Rattle.book.specs.Format.{grammar, prods}
-use Rattle.book.specs.Refusals as book
+use Rattle.bookcheck.specs.Refusals as book
 use Rattle.sheet.specs.Reading.{Node, Read, settings-of}
 
 -- Applies b l n p: refusal n of the sheet l against the book b has its condition met at the place p

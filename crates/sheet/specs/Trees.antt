@@ -7,7 +7,7 @@ use Rattle.chains.specs.Limits.{max-nodes, max-levels}
 use Rattle.chains.specs.Grammar.{Grammar}
 use Rattle.chains.specs.Tree.{Bush, flat, Kinded, Shallow}
 use Rattle.book.specs.Format.{grammar}
-use Rattle.book.specs.Refusals as book
+use Rattle.bookcheck.specs.Refusals as book
 
 -- no row of the book's table applies
 abbrev pub Sound : List ℕ → Type 0

@@ -6,7 +6,7 @@ use lib.ListN.{length, getD, take}
 use Rattle.chains.specs.Limits.{max-settings, max-nodes, max-levels}
 use Rattle.chains.specs.Grammar.{Heads}
 use Rattle.book.specs.Format.{grammar, entry}
-use Rattle.book.proofs.Accepted.{Accepted}
+use Rattle.bookcheck.proofs.Accepted.{Accepted}
 use Rattle.sheet.specs.Reading.{Node, Read, settings-of}
 use Rattle.sheet.specs.Stops.{Stop}
 use Rattle.sheet.specs.Trees.{Sound}

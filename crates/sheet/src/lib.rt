@@ -94,9 +94,9 @@ fn read(book: &[u8], sheet: &[u8]) -> SheetChecked
 pub fn check_sheet(book: &[u8], sheet: &[u8]) -> SheetChecked
     ensures { λ r. ⌜ SheetDue (now (book .entry)) (now (sheet .entry)) (said r) ⌝ }
 {
-    match book::check_book(book) {
-        book::Checked::Refused { number, place } => SheetChecked::Refused { number, place },
-        book::Checked::Accepted {
+    match bookcheck::check_book(book) {
+        bookcheck::Checked::Refused { number, place } => SheetChecked::Refused { number, place },
+        bookcheck::Checked::Accepted {
             kinds: _,
             productions: _,
         } => read(book, sheet),

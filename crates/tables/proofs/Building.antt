@@ -11,11 +11,11 @@ use lib.ListN.{length, replicate}
 use Rattle.lists.specs.Pick.{pick}
 use Rattle.lists.specs.Refusals.{Said, accepted, refused, Sooner, First}
 use Rattle.book.specs.Format.{kinds, prods, grammar}
-use Rattle.book.specs.Refusals as rows
-use Rattle.book.specs.declared.Checked.{Checked}
-use Rattle.book.specs.declared.Checked.the-variants as checks
-use Rattle.book.specs.Answer as checked
-use Rattle.book.proofs.Accepted.{accepted-book}
+use Rattle.bookcheck.specs.Refusals as rows
+use Rattle.bookcheck.specs.declared.Checked.{Checked}
+use Rattle.bookcheck.specs.declared.Checked.the-variants as checks
+use Rattle.bookcheck.specs.Answer as checked
+use Rattle.bookcheck.proofs.Accepted.{accepted-book}
 use Rattle.tables.specs.declared.Built.{Built}
 use Rattle.tables.specs.declared.Built.the-variants.{Accepted, Refused}
 use Rattle.tables.specs.Promise.{Lent, Applies, of-book, short-slice, over-plausible, over-feasible, short-up, short-down, wiped, left-by, BuildDue}

@@ -16,7 +16,7 @@ use Rattle.chains.specs.Gather.{Towards, CodesOf}
 use Rattle.chains.specs.Steps.{StepDown}
 use Rattle.chains.proofs.Gathered.{gathered-down}
 use Rattle.book.specs.Format.{arity-at, entry, kinds, prods, grammar}
-use Rattle.book.proofs.Accepted.{Accepted, arity-read}
+use Rattle.bookcheck.proofs.Accepted.{Accepted, arity-read}
 use Rattle.tables.specs.Sets.{Has}
 use Rattle.tables.specs.Memory.{Placed, Fine, Turned}
 use Rattle.tables.specs.State.{based}

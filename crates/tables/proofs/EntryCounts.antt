@@ -9,7 +9,7 @@ use lib.ListN.{length, getD}
 use Rattle.chains.specs.Limits.{max-kids, max-members, max-prods}
 use Rattle.book.specs.Format.{kinds, prods, entry, grammar}
 use Rattle.book.specs.Reading.{told}
-use Rattle.book.proofs.Accepted.{told-prods, place-read}
+use Rattle.bookcheck.proofs.Accepted.{told-prods, place-read}
 use Rattle.ranks.specs.Entries.{choices, up-start, down-start}
 use Rattle.ranks.proofs.Numbers.{choices-few, up-start-few, down-start-few}
 use Rattle.tables.specs.Memory.{Fine}

@@ -10,7 +10,7 @@ use Rattle.chains.specs.Limits.{max-members}
 use Rattle.chains.specs.Plausible.{Plausible}
 use Rattle.chains.specs.Feasible.{Feasible}
 use Rattle.book.specs.Format.{kinds, grammar}
-use Rattle.book.specs.Refusals as rows
+use Rattle.bookcheck.specs.Refusals as rows
 use Rattle.ranks.specs.Entries.{entry-bytes}
 use Rattle.tables.specs.Sets.{Over, Holds}
 use Rattle.tables.specs.Promise.{Lent, up-entries, down-entries, Counted, Applies, of-book, short-slice, over-plausible, over-feasible, short-up, short-down, Built}

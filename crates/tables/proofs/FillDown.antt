@@ -14,7 +14,7 @@ use Rattle.chains.specs.Feasible.{Feasible, down, Chosen}
 use Rattle.chains.specs.State.{code-on}
 use Rattle.book.specs.Format.{kinds, prods, entry, grammar}
 use Rattle.book.specs.Reading.{told}
-use Rattle.book.proofs.Accepted.{Accepted, told-prods}
+use Rattle.bookcheck.proofs.Accepted.{Accepted, told-prods}
 use Rattle.ranks.specs.Entries.{choices, down-start, down-entry, entry-bytes}
 use Rattle.ranks.proofs.Numbers.{down-start-after, down-entry-below}
 use Rattle.tables.specs.Sets.{member}

@@ -12,7 +12,7 @@ use Rattle.chains.specs.Grouping.{Says, Alike, Members}
 use Rattle.chains.specs.State.{code-on}
 use Rattle.chains.specs.Feasible.{Chosen}
 use Rattle.book.specs.Format.{kinds, prods, entry, grammar}
-use Rattle.book.proofs.Accepted.{Accepted}
+use Rattle.bookcheck.proofs.Accepted.{Accepted}
 use Rattle.tables.specs.Sets.{member, Holds}
 use Rattle.tables.specs.Entries.{Ranks, picked, Ranked}
 use Rattle.tables.specs.Memory.{Fine}

@@ -12,7 +12,7 @@ use Rattle.chains.specs.State.{Shown}
 use Rattle.chains.proofs.Gather.{result-open}
 use Rattle.book.specs.Format.{entry, prods, grammar}
 use Rattle.book.specs.Reading.{kind-in}
-use Rattle.book.proofs.Accepted.{Accepted, arity-read, kind-in-read}
+use Rattle.bookcheck.proofs.Accepted.{Accepted, arity-read, kind-in-read}
 use Rattle.tables.specs.Sets.{Has, member}
 use Rattle.tables.specs.Memory.{Placed}
 use Rattle.tables.specs.State.{width-in, based}

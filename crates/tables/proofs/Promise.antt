@@ -9,7 +9,7 @@ use Rattle.lists.specs.Refusals.{Said, accepted, refused, First}
 use Rattle.lists.proofs.Refusals.{first-once}
 use Rattle.chains.specs.Limits.{max-members}
 use Rattle.book.specs.Format.{kinds, prods, grammar}
-use Rattle.book.specs.Refusals as book
+use Rattle.bookcheck.specs.Refusals as book
 use Rattle.ranks.specs.Entries.{entry-bytes}
 use Rattle.tables.specs.Entries.{UpTable, DownTable}
 use Rattle.tables.specs.Promise.{Lent, up-entries, down-entries, Applies, of-book, short-slice, left-by, Written, Built, BuildDue}

@@ -30,7 +30,7 @@ use Rattle.chains.proofs.Appearance.{index-at, index-first}
 use Rattle.chains.proofs.Codes.{length-unpack, unpack-at}
 use Rattle.book.specs.Format.{arity-at, pairs-at, bytes-at, ties-of}
 use Rattle.book.specs.Reading.{settings-of, kind-in, to-at, from-at}
-use Rattle.book.specs.Search.{Tells}
+use Rattle.bookcheck.specs.Search.{Tells}
 use Rattle.ranks.specs.Entries.{labels, none}
 use Rattle.tables.specs.State.{Low, spot, Readable, width-in, own, apart, based, Numbered}
 

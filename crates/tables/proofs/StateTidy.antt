@@ -15,7 +15,7 @@ use Rattle.chains.specs.Grouping.{Proper}
 use Rattle.chains.specs.Labels.{index, add, canonFrom, canon}
 use Rattle.chains.proofs.Appearance.{index-le, length-canon, canon-iff, canon-proper, proper-le}
 use Rattle.book.specs.Format.{occ}
-use Rattle.book.proofs.Decided.{exists-decided}
+use Rattle.bookcheck.proofs.Decided.{exists-decided}
 use Rattle.ranks.specs.Entries.{labels, none}
 use Rattle.tables.specs.Entries.{kept, Labelled}
 use Rattle.tables.specs.State.{Present, Same, Low, State, tidyFrom, tidied}

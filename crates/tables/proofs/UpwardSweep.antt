@@ -13,7 +13,7 @@ use Rattle.chains.specs.Steps.{StepUp}
 use Rattle.chains.proofs.Plausible.{plausible-sound, plausible-complete}
 use Rattle.book.specs.Format.{arity-at, entry, kinds, prods, grammar}
 use Rattle.book.specs.Reading.{kid-at}
-use Rattle.book.proofs.Accepted.{Accepted, arity-read, kid-read}
+use Rattle.bookcheck.proofs.Accepted.{Accepted, arity-read, kid-read}
 use Rattle.tables.specs.Sets.{Has}
 use Rattle.tables.specs.Memory.{Fine, Kept, Turned}
 use Rattle.slices.specs.Slices.{cleared}

@@ -11,7 +11,7 @@ use Rattle.chains.specs.Steps.{StepUp}
 use Rattle.chains.proofs.Gathered.{gathered-up}
 use Rattle.book.specs.Format.{arity-at, entry, kinds, prods, grammar}
 use Rattle.book.specs.Reading.{kind-in}
-use Rattle.book.proofs.Accepted.{Accepted, arity-read, kind-in-read}
+use Rattle.bookcheck.proofs.Accepted.{Accepted, arity-read, kind-in-read}
 use Rattle.tables.specs.Sets.{Has}
 use Rattle.tables.specs.Memory.{Placed, Fine, Turned}
 use Rattle.tables.specs.State.{based}

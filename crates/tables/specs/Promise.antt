@@ -14,7 +14,7 @@ use Rattle.chains.specs.Grammar.{Grammar}
 use Rattle.chains.specs.Plausible.{Plausible}
 use Rattle.chains.specs.Feasible.{Feasible}
 use Rattle.book.specs.Format.{kinds, grammar}
-use Rattle.book.specs.Refusals as book
+use Rattle.bookcheck.specs.Refusals as book
 use Rattle.ranks.specs.Entries.{up-start, down-start, entry-bytes}
 use Rattle.tables.specs.Sets.{Over, Holds}
 use Rattle.tables.specs.Entries.{UpTable, DownTable}

@@ -11,7 +11,7 @@ ghost use Rattle.chains.specs.Limits.{max-settings, max-kids};
 ghost use Rattle.chains.specs.Grouping.{label};
 ghost use Rattle.chains.specs.Labels.{swap, relabel, joinAt, joins};
 ghost use Rattle.chains.specs.State.{code-pairs, dropped, code-on};
-ghost use Rattle.book.specs.Search.{Tells};
+ghost use Rattle.bookcheck.specs.Search.{Tells};
 ghost use Rattle.ranks.specs.Entries.{labels, none};
 ghost use Rattle.tables.specs.State.{Low, State, Whole, Readable, width-in, own, apart, based, Numbered, Renumbered, tidied};
 use super::widen::wide;

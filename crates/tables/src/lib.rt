@@ -38,9 +38,9 @@ pub fn build(
         (said r)
         (lent (now (plausible .exit)) (now (counts .exit)) (now (feasible .exit)) (now (tally .exit)) (now (up .exit)) (now (down .exit))) ⌝ }
 {
-    match book::check_book(book) {
-        book::Checked::Refused { number, place } => Built::Refused { number, place },
-        book::Checked::Accepted { kinds, productions } => {
+    match bookcheck::check_book(book) {
+        bookcheck::Checked::Refused { number, place } => Built::Refused { number, place },
+        bookcheck::Checked::Accepted { kinds, productions } => {
             if making::too_short(
                 widen::span(kinds),
                 plausible.len(),

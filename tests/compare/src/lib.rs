@@ -1,4 +1,4 @@
-//! Holds the programs `trial` and `groups` against the oracle, answer by answer.
+//! Holds the programs `trial` and `groups`, and the checks that C calls, against the oracle, answer by answer.
 
 pub mod batches;
 pub mod inputs;

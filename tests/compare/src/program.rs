@@ -11,7 +11,8 @@ impl Program {
         Program(command.split_whitespace().map(String::from).collect())
     }
 
-    /// What the program writes on standard output for an input; an error if it can't run or is killed.
+    /// What the program writes on standard output for an input; where it is killed that is said behind it, so that it shows
+    /// as a difference at the request that did it. An error if it can't run.
     pub fn run(&self, input: &[u8]) -> Result<Vec<u8>, String> {
         let failed = |error: std::io::Error| format!("{}: {error}", self.0.join(" "));
         let (name, arguments) = self.0.split_first().ok_or("no program is named")?;
@@ -25,11 +26,11 @@ impl Program {
             let mut output = Vec::new();
             from.read_to_end(&mut output).map(|_| output)
         });
-        let output = output.map_err(failed)?;
+        let mut output = output.map_err(failed)?;
         let status = child.wait().map_err(failed)?;
         // An exit status is not part of any answer, but a signal is a crash.
         if status.code().is_none() {
-            return Err(format!("{}: {status}", self.0.join(" ")));
+            output.extend(format!("{status}\n").bytes());
         }
         Ok(output)
     }

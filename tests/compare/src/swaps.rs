@@ -1,8 +1,8 @@
 //! Demand 3: where a subtree is swapped for one that groups alike at its node, every node outside
 //! keeps its ranks, and settings outside, the node's own included, share as before.
 
-use crate::batches::compare;
-use crate::program::Program;
+use crate::batches::{compare, Side};
+use crate::show::hex;
 use crate::tally::Tally;
 use generate::chance::Chance;
 use generate::requests::number_request;
@@ -64,19 +64,19 @@ pub fn requests(swap: &Swap) -> [Vec<u8>; 2] {
 }
 
 /// So many swaps, both vehicles of each numbered by the program.
-pub fn run(program: &Program, seed: u64, count: u64, tally: &mut Tally) -> Result<(), String> {
+pub fn run(trial: &Side, seed: u64, count: u64, tally: &mut Tally) -> Result<(), String> {
     let swaps: Vec<Swap> = (0..count).map(|index| swap(&mut Chance::new(seed ^ 0x7377_6170, index))).collect();
     let requests: Vec<Vec<u8>> = swaps.iter().flat_map(requests).collect();
     let name = |place: usize| format!("swap {} of seed {seed}", place / 2);
-    let answers = compare(program, &requests, name, tally)?;
-    for (index, (swap, answers)) in swaps.iter().zip(answers.chunks(2)).enumerate() {
-        let (Some(old), Some(new)) = (read(&answers[0]), read(&answers[1])) else {
-            return Err(format!("swap {index} of seed {seed} is refused"));
+    let answers = compare(trial, &requests, name, tally)?;
+    for (place, (swap, answers)) in swaps.iter().zip(answers.chunks(2)).enumerate() {
+        let wrong = match (read(&answers[0]), read(&answers[1])) {
+            (Some(old), Some(new)) if kept(swap, &old, &new) => continue,
+            (Some(_), Some(_)) => "shows outside",
+            _ => "is refused",
         };
-        if !kept(swap, &old, &new) {
-            let Swap { old, new, node, .. } = swap;
-            return Err(format!("swap {index} of seed {seed} at node {node} shows outside: {old:?} {new:?}"));
-        }
+        let [old, new] = [2 * place, 2 * place + 1].map(|at| hex(&requests[at]));
+        return Err(format!("{} at node {} {wrong}\nrequest {old}\nrequest {new}", name(2 * place), swap.node));
     }
     Ok(())
 }

@@ -25,7 +25,10 @@ fn fig_3_over_any_lawful_book() {
     let mut compared = 0;
     for index in 0..400 {
         let grammar = check_book(&lawful::book(&mut Chance::new(12, index)).bytes()).unwrap();
-        let Ok(sets) = passes::sets(&grammar) else { continue };
+        let sets = match passes::sets(&grammar) {
+            Ok(sets) => sets,
+            Err(_) => continue,
+        };
         let counts = (counts(&sets.plausible), counts(&sets.feasible));
         if down_start(&grammar, grammar.productions.len(), &counts.0, &counts.1) <= 5000 {
             assert_eq!(sets, figure::sets(&grammar), "index {index}");

@@ -10,5 +10,6 @@ pub mod plan;
 pub mod requests;
 pub mod rooms;
 pub mod sheets;
+pub mod stored;
 pub mod swaps;
 pub mod tables;

@@ -1,4 +1,4 @@
-//! Requests for `trial`: families in turn, so that a few hundred reach every refusal.
+//! Requests for `trial` and for the checks that C calls: families in turn, so that a few hundred reach every refusal.
 
 use crate::chance::Chance;
 use crate::plan::Plan;
@@ -250,6 +250,43 @@ fn malformed(chance: &mut Chance, turn: usize) -> Vec<u8> {
         6 => request(5, &[&tables.down, &[0; 7][..*chance.pick(&[0, 4, 7])], &[0]]),
         7 => request(5, &[&tables.down, &[0; 8], &[0; 2][..*chance.pick(&[0, 2])]]),
         _ => request(1, &[&chance.bytes(600_000)]),
+    }
+}
+
+/// Requests of calls 1 and 2 that are none, and one that fills both rooms.
+fn malformed_check(chance: &mut Chance, turn: usize) -> Vec<u8> {
+    let (book, _, sheet) = fitted(chance);
+    let mut whole = request(2, &[&book, &sheet]);
+    match turn % 10 {
+        0 => Vec::new(),
+        1 => request(*chance.pick(&[0, 3, 4, 5, 129, 255]), &[&book, &sheet]),
+        2 => whole[..chance.below(whole.len())].to_vec(),
+        3 => [&whole[..], &[chance.byte()]].concat(),
+        4 => request(1, &[&book, &sheet]),
+        5 => request(2, &[&book]),
+        6 => {
+            let length = *chance.pick(&[40_001, 45_009, 45_010, 600_000]);
+            request(1, &[&chance.bytes(length)])
+        }
+        7 => request(2, &[&book, &chance.bytes(5_001)]),
+        // The book's length comes round, or takes in the sheet.
+        8 => {
+            let length = *chance.pick(&[u32::MAX, u32::MAX - 3, (book.len() + sheet.len() + 4) as u32]);
+            whole[1..5].copy_from_slice(&length.to_le_bytes());
+            whole
+        }
+        _ => request(2, &[&chance.bytes(40_000), &chance.bytes(5_000)]),
+    }
+}
+
+/// One request of calls 1 and 2; families come in turn with the index.
+pub fn make_check(seed: u64, index: u64) -> Vec<u8> {
+    let chance = &mut Chance::new(seed, index);
+    let (turn, family) = (index as usize / 8, index as usize % 8);
+    match family {
+        0..=2 => book_request(chance, 3 * turn + family),
+        3..=6 => sheet_request(chance, 4 * turn + family - 3),
+        _ => malformed_check(chance, turn),
     }
 }
 

@@ -16,7 +16,7 @@ impl<'a> Grower<'a> {
             for production in 0..grammar.productions.len() {
                 let left = grammar.productions[production].left;
                 let height = grower.height(production);
-                if height.is_some() && grower.lowest[left].is_none_or(|low| Some(low) > height) {
+                if height.is_some() && grower.lowest[left].map_or(true, |low| Some(low) > height) {
                     grower.lowest[left] = height;
                 }
             }
@@ -34,14 +34,14 @@ impl<'a> Grower<'a> {
     /// A tree of a kind, of about `nodes` nodes and at most `levels` levels, if one can be had.
     pub fn tree(&self, chance: &mut Chance, kind: usize, nodes: usize, levels: usize) -> Option<Vec<u8>> {
         let mut sheet = Vec::new();
-        let fits = self.lowest[kind].is_some_and(|height| height <= levels);
+        let fits = self.lowest[kind].map_or(false, |height| height <= levels);
         fits.then(|| self.grow(chance, kind, nodes, levels, &mut sheet))?;
         (sheet.len() <= 4096).then_some(sheet)
     }
 
     fn grow(&self, chance: &mut Chance, kind: usize, nodes: usize, levels: usize, sheet: &mut Vec<u8>) {
         let own = (0..self.grammar.productions.len()).filter(|&p| self.grammar.productions[p].left == kind);
-        let fitting: Vec<usize> = own.filter(|&p| self.height(p).is_some_and(|h| h <= levels)).collect();
+        let fitting: Vec<usize> = own.filter(|&p| self.height(p).map_or(false, |h| h <= levels)).collect();
         let low = |p: &&usize| self.height(**p) == self.lowest[kind];
         let going_on = |p: &&usize| !self.grammar.productions[**p].children.is_empty();
         let wanted: Vec<usize> = match sheet.len() < nodes {

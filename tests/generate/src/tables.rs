@@ -112,7 +112,10 @@ fn reads(book: &[u8], sheet: &[u8], tables: &Tables) -> Option<Reads> {
 
 /// One to three faults in the tables, at entries that the sheet reads.
 pub fn damaged(chance: &mut Chance, book: &[u8], sheet: &[u8], tables: &mut Tables) {
-    let Some(reads) = reads(book, sheet, tables) else { return };
+    let reads = match reads(book, sheet, tables) {
+        Some(reads) => reads,
+        None => return,
+    };
     let parents: Vec<usize> = (0..reads.nodes.len()).filter(|&n| !reads.nodes[n].children.is_empty()).collect();
     for _ in 0..chance.between(1, 3) {
         let any = chance.below(reads.nodes.len());

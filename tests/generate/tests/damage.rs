@@ -18,7 +18,7 @@ fn a_fault_has_its_number() {
         let hits = |index: &u64| {
             let chance = &mut Chance::new(number as u64, *index);
             let plan = lawful::book(chance);
-            check_book(&damage::faulty(chance, &plan, number)).is_err_and(|r| r.number == number as u16)
+            matches!(check_book(&damage::faulty(chance, &plan, number)), Err(r) if r.number == number as u16)
         };
         let hit = (0..500).filter(hits).count();
         assert!(hit > 400, "only {hit} of 500 books have the fault {number}");

@@ -93,7 +93,7 @@ fn kind_of<'a>(entry: &Entry, kinds: &'a [u8], occurrence: u8) -> Option<&'a [u8
 }
 
 fn may_be_set(entry: &Entry, kinds: &[u8], to: u8) -> bool {
-    kind_of(entry, kinds, to).is_some_and(|kind| {
+    kind_of(entry, kinds, to).map_or(false, |kind| {
         let inherited = kind[1] >> (to & 7) & 1 == 1;
         inherited == (to >> 3 != 0)
     })
@@ -149,8 +149,9 @@ pub fn check_book(book: &[u8]) -> Result<Grammar, Refusal> {
         return refuse(4, 0);
     }
     let (kinds, rest) = book[..trailer].split_at(2 * n);
-    let Some(entries) = cut_all(rest, p) else {
-        return refuse(4, 0);
+    let entries = match cut_all(rest, p) {
+        Some(entries) => entries,
+        None => return refuse(4, 0),
     };
     check_parts(kinds, &entries, start)?;
     Ok(grammar(kinds, &entries, start))

@@ -62,6 +62,28 @@ pub const NAMES: &[&str] = &[
     "node-room-more",
 ];
 
+/// Those among them that stand in the two checks, which C calls.
+pub const IN_CHECKS: &[&str] = &[
+    "edition-byte",
+    "start-as-child",
+    "equal-pairs",
+    "pairs-before-kinds",
+    "early-end-place",
+    "leftover",
+    "leftover-22",
+    "level-first",
+    "kinds-less",
+    "kinds-more",
+    "productions-less",
+    "productions-more",
+    "children-less",
+    "children-more",
+    "levels-less",
+    "levels-more",
+    "sheet-less",
+    "sheet-more",
+];
+
 /// Whether the fault of this name is to be made.
 #[cfg(feature = "faults")]
 pub fn wrong(name: &str) -> bool {

@@ -1,5 +1,5 @@
-//! `oracle groups` and `oracle trial`: the same input and output as the programs of those names.
-//! `oracle faults` lists the deliberate faults.
+//! `oracle groups` and `oracle trial`: the same input and output as the programs of those names. `oracle checks`: those of
+//! `tests/c/answers.c`. `oracle faults` lists the deliberate faults, `oracle check-faults` those that C can meet.
 
 use std::io::{Read, Write};
 
@@ -12,10 +12,12 @@ fn input() -> Vec<u8> {
 fn main() {
     let text = match std::env::args().nth(1).as_deref() {
         Some("groups") => oracle::groups::groups(&input()),
-        Some("trial") => oracle::trial::trial(&input()),
+        Some("trial") => oracle::trial::answers(&input(), oracle::trial::answer),
+        Some("checks") => oracle::trial::answers(&input(), oracle::trial::check_answer),
         Some("faults") => oracle::faults::NAMES.join("\n") + "\n",
+        Some("check-faults") => oracle::faults::IN_CHECKS.join("\n") + "\n",
         _ => {
-            eprintln!("usage: oracle groups|trial|faults");
+            eprintln!("usage: oracle groups|trial|checks|faults|check-faults");
             std::process::exit(2);
         }
     };

@@ -28,8 +28,9 @@ pub fn read_sheet(grammar: &Grammar, sheet: &[u8]) -> Result<Vec<Node>, Refusal>
     let mut due = vec![Due { kind: grammar.start, level: 1, parent: None }];
     while let Some(want) = due.pop() {
         let position = nodes.len();
-        let Some(&byte) = sheet.get(position) else {
-            return refuse(22, if wrong("early-end-place") { position - 1 } else { position });
+        let byte = match sheet.get(position) {
+            Some(&byte) => byte,
+            None => return refuse(22, if wrong("early-end-place") { position - 1 } else { position }),
         };
         fits(grammar, byte, &want, position)?;
         let production = &grammar.productions[byte as usize];
@@ -59,8 +60,9 @@ fn fits(grammar: &Grammar, byte: u8, want: &Due, position: usize) -> Result<(), 
     if wrong("level-first") && want.level > deepest {
         return refuse(23, position);
     }
-    let Some(production) = grammar.productions.get(byte as usize) else {
-        return refuse(21, position);
+    let production = match grammar.productions.get(byte as usize) {
+        Some(production) => production,
+        None => return refuse(21, position),
     };
     if production.left != want.kind {
         return refuse(22, position);

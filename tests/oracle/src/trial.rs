@@ -48,8 +48,8 @@ impl<'a> Arguments<'a> {
 }
 
 fn cut_length(bytes: &[u8]) -> Option<(usize, &[u8])> {
-    let (length, rest) = bytes.split_first_chunk::<4>()?;
-    Some((u32::from_le_bytes(*length) as usize, rest))
+    let (length, rest) = (bytes.get(..4)?, &bytes[4..]);
+    Some((u32::from_le_bytes(length.try_into().ok()?) as usize, rest))
 }
 
 fn line<T: Display>(elements: &[T]) -> String {
@@ -138,8 +138,19 @@ pub fn answer(request: &[u8]) -> String {
     text.unwrap_or_else(malformed) + ".\n"
 }
 
+/// The answer that C gets to calls 1 and 2, as `tests/c/answers.c` prints it: no counts, and no other calls.
+pub fn check_answer(request: &[u8]) -> String {
+    let known = matches!(request.first(), Some(1 | 2));
+    let text = answer(if known { request } else { &[] });
+    if text.starts_with("ok ") {
+        "ok\n.\n".to_string()
+    } else {
+        text
+    }
+}
+
 /// The answers to a run of requests. A last request that is cut off is malformed.
-pub fn trial(mut input: &[u8]) -> String {
+pub fn answers(mut input: &[u8], answer: impl Fn(&[u8]) -> String) -> String {
     let mut text = String::new();
     while !input.is_empty() {
         let whole = cut_length(input).and_then(|(length, rest)| Some((rest.get(..length)?, &rest[length..])));

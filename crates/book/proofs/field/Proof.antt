@@ -1,11 +1,14 @@
 use native.Mathlib.Omega.{arith}
 use borrow.Author.Needs.{needs}
-use Rattle.book.proofs.Bytes.{told-field, told-none}
+use Rattle.book.proofs.Bytes.{told-field, told-none, told-past}
 use Rattle.book.proofs.field.Statement.{statement}
 use Rattle.book.proofs.field.Tie as tie
 
 returns : tie.Need-returns
 returns c = let a = c .before .before .args in told-none (a .book .now) (a .i) (omega arith)
+
+returns-2 : tie.Need-returns-2
+returns-2 c = let a = c .before .before .before .args in told-past (a .book .now) (a .i) (omega arith) (omega arith)
 
 mul-at : tie.Need-mul-at
 mul-at c = search needs
@@ -34,9 +37,9 @@ mul-result c = search needs
 add-result : tie.Need-add-result
 add-result c = search needs
 
-returns-2 : tie.Need-returns-2
-returns-2 c =
-    let a = c .before .before .before .before .before .before .args in
+returns-3 : tie.Need-returns-3
+returns-3 c =
+    let a = c .before .before .before .before .before .before .before .args in
     told-field (a .book .now) (a .i) (omega arith) (omega arith) (omega arith) (c .before .before .word .ensures .0) (c .word2 .ensures .0)
 
 pub field-spec : {M : Type 1} → statement M
@@ -44,6 +47,7 @@ field-spec =
     tie.close
     (tie.spec
     returns
+    returns-2
     mul-at
     add-at
     shared-slice-read-word
@@ -53,4 +57,4 @@ field-spec =
     word-requires-2
     mul-result
     add-result
-    returns-2)
+    returns-3)

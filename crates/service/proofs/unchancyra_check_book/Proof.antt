@@ -1,6 +1,6 @@
 use mathlib.Core.Path.{ap}
 use native.Mathlib.Omega.{arith}
-use Rattle.book.specs.Answer.{said}
+use Rattle.bookcheck.specs.Answer.{said}
 use Rattle.service.proofs.Word.{of-accepted, of-refused}
 use borrow.Author.Needs.{needs}
 use Rattle.service.proofs.unchancyra_check_book.Statement.{statement}

@@ -1,6 +1,6 @@
 use mathlib.Core.Path.{_∙_}
 use native.Mathlib.Omega.{arith}
-use Rattle.book.proofs.Accepted.{told-start}
+use Rattle.bookcheck.proofs.Accepted.{told-start}
 use Rattle.sheet.proofs.Accepted.{book-accepted}
 use borrow.Author.Needs.{needs}
 use Rattle.sheet.proofs.root_kind.Statement.{statement}

@@ -5,7 +5,7 @@ use Rattle.tables.proofs.build.Statement.{statement}
 use Rattle.tables.proofs.build.Tie as tie
 use Rattle.tables.proofs.build.Reads as reads
 use Rattle.tables.proofs.build.Lts as lts
-use Rattle.book.proofs.check_book.Reads as check-book-reads
+use Rattle.bookcheck.proofs.check_book.Reads as check-book-reads
 use Rattle.tables.proofs.making.refused.Reads as refused-reads
 use Rattle.tables.proofs.making.run.Reads as run-reads
 use Rattle.tables.proofs.widen.span.Reads as span-reads

@@ -2,7 +2,7 @@ use mathlib.Core.Path.{_≡_, refl, sym, ap, _∙_}
 use Prim.Native.Nat.{_+_, _-_, _*_, _^_, _≤_, _<_}
 use native.Mathlib.Omega.{arith}
 use borrow.Author.Needs.{needs}
-use Rattle.book.proofs.Accepted.{told-prods}
+use Rattle.bookcheck.proofs.Accepted.{told-prods}
 use Rattle.numbering.proofs.Children.{left-is, left-low}
 use Rattle.numbering.proofs.Products.{DownSumming, down-summing-none, product-small, down-summing-turn, down-summing-done}
 use Rattle.numbering.proofs.starts.down_starts.Statement.{statement}

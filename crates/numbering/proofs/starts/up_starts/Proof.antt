@@ -2,7 +2,7 @@ use mathlib.Core.Path.{_≡_, refl, sym, ap, _∙_}
 use Prim.Native.Nat.{_+_, _-_, _*_, _^_, _≤_, _<_}
 use native.Mathlib.Omega.{arith}
 use borrow.Author.Needs.{needs}
-use Rattle.book.proofs.Accepted.{told-prods}
+use Rattle.bookcheck.proofs.Accepted.{told-prods}
 use Rattle.numbering.proofs.Products.{UpSumming, up-summing-none, up-summing-turn, up-summing-done}
 use Rattle.numbering.proofs.starts.up_starts.Statement.{statement}
 use Rattle.numbering.proofs.starts.up_starts.Tie as tie

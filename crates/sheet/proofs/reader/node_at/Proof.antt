@@ -1,7 +1,7 @@
 use mathlib.Core.Path.{sym, _∙_}
 use native.Mathlib.Omega.{arith}
 use borrow.Author.Needs.{needs}
-use Rattle.book.proofs.Accepted.{told-prods}
+use Rattle.bookcheck.proofs.Accepted.{told-prods}
 use Rattle.sheet.proofs.Walk.{indexed, found-end, found-unknown, found-kind, found-deep, found-fit}
 use Rattle.sheet.proofs.reader.node_at.Statement.{statement}
 use Rattle.sheet.proofs.reader.node_at.Tie as tie

@@ -3,7 +3,7 @@ use mathlib.Core.Path.{_≡_, ap, _∙_}
 use Prim.Native.Nat.{ℕ, _*_}
 use Rattle.chains.specs.Limits.{max-members}
 use Rattle.book.specs.Format.{kinds}
-use Rattle.book.proofs.Accepted.{told-kinds, told-start}
+use Rattle.bookcheck.proofs.Accepted.{told-kinds, told-start}
 use Rattle.slices.specs.Slices.{cleared}
 use Rattle.slices.proofs.Cleared.{clears}
 use Rattle.tables.proofs.Memory.{fine-placed}

@@ -4,7 +4,7 @@ use Prim.Native.Nat.{ℕ, _<_, _-_}
 use lib.ListN.{length}
 use Rattle.chains.specs.Feasible.{Feasible}
 use Rattle.book.specs.Format.{arity-at, entry, kinds, prods, grammar}
-use Rattle.book.proofs.Accepted.{arity-read}
+use Rattle.bookcheck.proofs.Accepted.{arity-read}
 use Rattle.tables.specs.Downward.{DownServed}
 use Rattle.tables.proofs.Rounds.{Round, round-begun, round-next, round-done, round-less}
 use Rattle.tables.proofs.Gathering.{fine-own}

@@ -2,7 +2,7 @@
 use mathlib.Core.Path.{_≡_, refl}
 use Prim.Native.Nat.{suc, _+_, _≤_}
 use Rattle.book.specs.Format.{arity-at, entry}
-use Rattle.book.proofs.Accepted.{arity-read}
+use Rattle.bookcheck.proofs.Accepted.{arity-read}
 use Rattle.tables.proofs.StateBase.{few-kids}
 use Rattle.tables.proofs.UpwardVisit.{slot-placed}
 use Rattle.tables.proofs.DownwardVisit.{down-prepared, down-gathers}

@@ -3,7 +3,7 @@ use mathlib.Core.Path.{_≡_, sym, _∙_}
 use Prim.Native.Nat.{_<_, _-_}
 use Rattle.chains.specs.Plausible.{Plausible}
 use Rattle.book.specs.Format.{kinds, prods, grammar}
-use Rattle.book.proofs.Accepted.{told-prods, place-read}
+use Rattle.bookcheck.proofs.Accepted.{told-prods, place-read}
 use Rattle.tables.specs.Upward.{UpMarks, UpSwept}
 use Rattle.tables.proofs.Rounds.{round-less, OnSweep, sweep-begun, sweep-marks, sweep-next, sweep-done}
 use Rattle.tables.proofs.UpwardSweep.{UpTurn, up-lasts, up-serves}

@@ -4,7 +4,7 @@ use Prim.Native.Nat.{ℕ, _*_}
 use Rattle.chains.specs.Limits.{max-members}
 use Rattle.chains.specs.Plausible.{Plausible}
 use Rattle.book.specs.Format.{kinds, grammar}
-use Rattle.book.proofs.Accepted.{told-kinds}
+use Rattle.bookcheck.proofs.Accepted.{told-kinds}
 use Rattle.slices.specs.Slices.{cleared}
 use Rattle.slices.proofs.Cleared.{clears}
 use Rattle.tables.proofs.Holds.{cleared-fine}

@@ -1,0 +1,14 @@
+pub mod Answers
+pub mod Decided
+pub mod Laying
+pub mod Bits
+pub mod Kinding
+pub mod Entry
+pub mod Kin
+pub mod Tying
+pub mod Passing
+pub mod Marking
+pub mod Rows
+pub mod Cascade
+pub mod Accepted
+pub mod Once

@@ -1,0 +1,75 @@
+// The program `groups`: a sheet and a book come in on standard input; ranks, down entries and group numbers go out.
+mod input;
+mod print;
+mod room;
+
+use input::Parts;
+use numbering::Grouping;
+use tables::Built;
+
+fn main() {
+    // A byte more than is allowed, so that too much shows.
+    let mut bytes = [0u8; input::MOST + 1];
+    let n = io::read_full(libc::STDIN_FILENO, &mut bytes);
+    answer(&bytes[..n]);
+}
+
+fn answer(bytes: &[u8]) {
+    match input::cut(bytes) {
+        Parts::Refused => print::refused(30, 0),
+        Parts::Sheet { end } => build(&bytes[2..end], &bytes[end..]),
+    }
+}
+
+// The build fills the tables that the sheet call then reads.
+fn build(sheet: &[u8], book: &[u8]) {
+    let mut plausible = [0u32; room::SET_PLACES];
+    let mut plausible_counts = [0u8; room::KINDS];
+    let mut feasible = [0u32; room::SET_PLACES];
+    let mut feasible_counts = [0u8; room::KINDS];
+    let mut up = [0u8; room::UP_ENTRIES];
+    let mut down = [0u8; room::DOWN_BYTES];
+    match tables::build(
+        book,
+        &mut plausible,
+        &mut plausible_counts,
+        &mut feasible,
+        &mut feasible_counts,
+        &mut up,
+        &mut down,
+    ) {
+        Built::Refused { number, place } => print::refused(number, place),
+        Built::Accepted { up: _, down: _ } => {
+            group(book, sheet, &plausible_counts, &feasible_counts, &up, &down)
+        }
+    }
+}
+
+fn group(
+    book: &[u8],
+    sheet: &[u8],
+    plausible_counts: &[u8],
+    feasible_counts: &[u8],
+    up: &[u8],
+    down: &[u8],
+) {
+    let mut nodes = [0u64; room::NODE_PLACES];
+    let mut groups = [0u16; room::GROUP_PLACES];
+    match numbering::group_sheet(
+        book,
+        sheet,
+        plausible_counts,
+        feasible_counts,
+        up,
+        down,
+        &mut nodes,
+        &mut groups,
+    ) {
+        Grouping::Refused { number, place } => print::refused(number, place),
+        Grouping::Accepted {
+            nodes: n,
+            settings,
+            groups: g,
+        } => print::accepted(book, sheet, &nodes, &groups, n, settings, g),
+    }
+}

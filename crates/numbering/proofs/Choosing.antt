@@ -1,0 +1,143 @@
+-- All reads in their order: upward, the root, downward.
+use mathlib.Core.Path.{_≡_, refl, sym, ap, subst, _∙_}
+use mathlib.Core.Logic.{_⊎_, inl, inr}
+use mathlib.Core.List.{List, [], _∷_}
+use Prim.Native.Nat.{ℕ, zero, suc, _+_, _-_, _≤_, _<_}
+use native.Mathlib.Omega.{arith}
+use lib.ListN.{length, getD, set, length-set}
+use lib.Seq.{getD-set-same}
+use Rattle.chains.specs.Limits.{max-nodes}
+use Rattle.chains.specs.Grammar.{Grammar}
+use Rattle.chains.specs.Tree.{Bush, nil, grow, size, Kinded, Sub}
+use Rattle.chains.proofs.Nodes.{sub-in}
+use Rattle.book.specs.Format.{grammar, kinds, start}
+use Rattle.bookcheck.proofs.Accepted.{Accepted}
+use Rattle.numbering.specs.Walk.{Tables, tables, ranks, started}
+use Rattle.numbering.specs.Promise.{TreeOf, BadUp, BadRoot, BadDown}
+use Rattle.numbering.specs.Visits.{visit}
+use Rattle.numbering.specs.Parts.{Sheeted, Ended, Ranked, NoBadUp, UpIs, UpReads, RightRank, NoBadDown, DownIs, DownReads, Fails, upward, root, downward, Chosen, ChoiceIs, Choice}
+use Rattle.numbering.specs.declared.upward.Reads.{Reads}
+use Rattle.numbering.specs.declared.upward.Reads.the-variants.{All, Bad}
+use Rattle.numbering.proofs.Journey.{root-visited}
+
+-- the start has its count
+pub start-inside : {b : List ℕ} (d : List ℕ) {k : ℕ} → Accepted b → kinds b ≤ length d → k ≡ start b → k < length d
+start-inside d a h e = omega (arith, a .lawful .start-in)
+
+-- the root's rank
+started-rank : (G : Grammar) (T : Tables) (f : Bush) (plausible : List ℕ) → Kinded G f (G .start ∷ []) → Ranked G T f 0 0 plausible → started G T f 0 ≡ getD plausible 0 0
+unfolding ranks
+started-rank G T nil plausible k r = absurd k
+started-rank G T (grow p cs rest) plausible k r = sym (r 0 p cs (inl (refl, refl, refl)) (omega arith))
+
+module _ (G : Grammar) (T : Tables) (f : Bush) where
+  inside : (i q : ℕ) (ds : Bush) → Sub f 0 i q ds → i < size f
+  inside i q ds s = omega (arith, sub-in f 0 i q ds s .0 .1)
+
+  -- no read before the turn t fails
+  Earlier : ℕ → Type 0
+  Earlier t = (p s : ℕ) → s < t → Fails G T f (size f) p s → ⊥
+
+  before-upward : (i : ℕ) → i < size f → NoBadUp G T f (suc i) → (p s : ℕ) → s < size f - i → Fails G T f (size f) p s → ⊥
+  before-upward i h none p s k x = go x k
+    where
+      go : {p s : ℕ} → Fails G T f (size f) p s → s < size f - i → ⊥
+      go (upward m q ds z bad) k = none m q ds z (omega (arith, inside m q ds z)) bad
+      go (root bad) k = omega arith
+      go (downward m q ds z bad) k = omega arith
+
+  before-root : NoBadUp G T f 0 → (p s : ℕ) → s < size f + 1 → Fails G T f (size f) p s → ⊥
+  before-root none p s k x = go x k
+    where
+      go : {p s : ℕ} → Fails G T f (size f) p s → s < size f + 1 → ⊥
+      go (upward m q ds z bad) k = none m q ds z (omega arith) bad
+      go (root bad) k = omega arith
+      go (downward m q ds z bad) k = omega arith
+
+  before-downward : (i : ℕ) → NoBadUp G T f 0 → (BadRoot G T f → ⊥) → NoBadDown G T f i → (p s : ℕ) → s < size f + 2 + i → Fails G T f (size f) p s → ⊥
+  before-downward i none fine low p s k x = go x k
+    where
+      go : {p s : ℕ} → Fails G T f (size f) p s → s < size f + 2 + i → ⊥
+      go (upward m q ds z bad) k = none m q ds z (omega arith) bad
+      go (root bad) k = fine bad
+      go (downward m q ds z bad) k = low m q ds z (omega arith) bad
+
+  none-fails : NoBadUp G T f 0 → (BadRoot G T f → ⊥) → NoBadDown G T f (size f) → (p s : ℕ) → Fails G T f (size f) p s → ⊥
+  none-fails none fine low p s x = go x
+    where
+      go : {p s : ℕ} → Fails G T f (size f) p s → ⊥
+      go (upward m q ds z bad) = none m q ds z (omega arith) bad
+      go (root bad) = fine bad
+      go (downward m q ds z bad) = low m q ds z (inside m q ds z) bad
+
+-- ── the exits ──
+module _ {b l c u plausible ends : List ℕ} (d w : List ℕ) {r : Reads} (up : UpReads b l c u plausible ends r) where
+  pub choice-up : {feasible entries : List ℕ} {i : ℕ} → length feasible ≡ max-nodes → length entries ≡ max-nodes → r ≡ Bad i
+      → Choice b l c d u w plausible ends feasible entries (Bad i)
+  choice-up {i = i} lf le e = record {
+    plausible-long = up .plausible-long;
+    ends-long = up .ends-long;
+    feasible-long = lf;
+    entries-long = le;
+    case = λ t.
+        let T = tables c d u w in
+        let ((q, ds, s, bad), none) = subst (UpIs (grammar b) T (t .tree) plausible ends) e (up .case t d w) in
+        (size (t .tree) - i, upward i q ds s bad, before-upward (grammar b) T (t .tree) i (inside (grammar b) T (t .tree) i q ds s) none);
+  }
+
+  module _ (e : r ≡ All) where
+    good-up : (t : TreeOf (grammar b) l) → NoBadUp (grammar b) (tables c d u w) (t .tree) 0 × Ranked (grammar b) (tables c d u w) (t .tree) 0 0 plausible × Ended (t .tree) 0 0 ends
+    good-up t = subst (UpIs (grammar b) (tables c d u w) (t .tree) plausible ends) e (up .case t d w)
+
+    pub choice-ended : (t : TreeOf (grammar b) l) → Ended (t .tree) 0 0 ends
+    choice-ended t = subst (UpIs (grammar b) (tables c [] u []) (t .tree) plausible ends) e (up .case t [] []) .2
+
+    root-rank : (t : TreeOf (grammar b) l) → started (grammar b) (tables c d u w) (t .tree) 0 ≡ getD plausible 0 0
+    root-rank t = started-rank (grammar b) (tables c d u w) (t .tree) plausible (t .kinded) (good-up t .1)
+
+    pub choice-root : {feasible entries : List ℕ} {kind rank : ℕ} → length feasible ≡ max-nodes → length entries ≡ max-nodes → kind ≡ start b → rank ≡ getD plausible 0 0
+        → getD d kind 0 ≤ rank → Choice b l c d u w plausible ends feasible entries (Bad 0)
+    choice-root {kind = kind} {rank} lf le ek er h = record {
+      plausible-long = up .plausible-long;
+      ends-long = up .ends-long;
+      feasible-long = lf;
+      entries-long = le;
+      case = λ t.
+          let T = tables c d u w in
+          let bad : BadRoot (grammar b) T (t .tree) = omega (arith, ap (λ k. getD d k 0) ek, root-rank t) in
+          (size (t .tree) + 1, root bad, before-root (grammar b) T (t .tree) (good-up t .0));
+    }
+
+    module _ (s : List ℕ) {feasible entries : List ℕ} {kind rank : ℕ} (ls : length s ≡ max-nodes) (ek : kind ≡ start b) (er : rank ≡ getD plausible 0 0) (low : rank < getD d kind 0)
+        {o : Reads} (down : DownReads b l c d w plausible ends (set s 0 rank) feasible entries o) where
+      fine : (t : TreeOf (grammar b) l) → BadRoot (grammar b) (tables c d u w) (t .tree) → ⊥
+      fine t h = omega (arith, ap (λ k. getD d k 0) ek, root-rank t)
+
+      down-is : (t : TreeOf (grammar b) l) → DownIs (grammar b) (tables c d u w) (t .tree) feasible entries o
+      down-is t =
+          let T = tables c d u w in
+          let (none, ranked, ended) = good-up t in
+          let first : RightRank (grammar b) T (t .tree) (set s 0 rank) 0
+          = getD-set-same s 0 rank 0 (omega arith) ∙ er ∙ sym (root-rank t) ∙ sym (root-visited (grammar b) T (t .tree) (t .kinded) .0) in
+          down .case t u ended ranked first
+
+      choice-of : (o′ : Reads) → o ≡ o′ → (t : TreeOf (grammar b) l) → ChoiceIs (grammar b) (tables c d u w) (t .tree) plausible ends feasible entries o′
+      choice-of All eo t =
+          let T = tables c d u w in
+          let (none, ranked, ended) = good-up t in
+          let (bad, right, entered) = subst (DownIs (grammar b) T (t .tree) feasible entries) eo (down-is t) in
+          (none-fails (grammar b) T (t .tree) none (fine t) bad, record { ranked = ranked; ended = ended; right = right; entered = entered })
+      choice-of (Bad i) eo t =
+          let T = tables c d u w in
+          let (none, ranked, ended) = good-up t in
+          let ((q, ds, z, bad), first) = subst (DownIs (grammar b) T (t .tree) feasible entries) eo (down-is t) in
+          (size (t .tree) + 2 + i, downward i q ds z bad, before-downward (grammar b) T (t .tree) i none (fine t) first)
+
+      pub choice-down : Choice b l c d u w plausible ends feasible entries o
+      choice-down = record {
+        plausible-long = up .plausible-long;
+        ends-long = up .ends-long;
+        feasible-long = down .feasible-long;
+        entries-long = down .entries-long;
+        case = choice-of o refl;
+      }

@@ -1,0 +1,93 @@
+-- Each exit has its own law.
+use mathlib.Core.Path.{refl}
+use Rattle.numbering.proofs.Due.{sheeted}
+use Rattle.numbering.proofs.Settled.{clear-book, clear-index, settled-big, settled-bad, settled-walkable, settled-well}
+use borrow.Author.Needs.{needs}
+use Rattle.numbering.proofs.settling.settle.Statement.{statement}
+use Rattle.numbering.proofs.settling.settle.Tie as tie
+use Rattle.numbering.proofs.settling.settle.Reads as reads
+use Rattle.numbering.proofs.settling.settle.Lts as lts
+use Rattle.book.proofs.index.Reads as index-reads
+use Rattle.numbering.proofs.choice.choose.Reads as choose-reads
+use Rattle.numbering.proofs.counts.too_many.Reads as too-many-reads
+use Rattle.numbering.proofs.writing.fill.Reads as fill-reads
+
+too-many-requires : tie.Need-too-many-requires
+too-many-requires c κs = (clear-book (c .before .before .before .before .before .before .before .before .pre .0), c .before .before .before .before .before .before .before .before .pre .0 .plausible-counts, c .before .before .before .before .before .before .before .before .pre .0 .feasible-counts)
+
+refused-requires : tie.Need-refused-requires
+refused-requires c κs = search needs
+
+returns : tie.Need-returns
+returns c = settled-big (c .before .before .before .before .before .before .before .before .before .before .before .pre .0) (c .before .before .too-many .ensures) (c .before .if1 .taken) (c .refused .ensures)
+
+index-requires : tie.Need-index-requires
+index-requires c κs = search needs
+
+choose-requires : tie.Need-choose-requires
+choose-requires c κs = (
+  clear-index (c .before .before .before .before .before .before .before .before .before .before .before .before .before .before .before .before .pre .0) (c .before .before .before .before .before .index .ensures),
+  sheeted (c .before .before .before .before .before .before .before .before .before .before .before .before .before .before .before .before .pre .0 .fits),
+  c .before .before .before .before .before .before .before .before .before .before .before .before .before .before .before .before .pre .0 .plausible-counts,
+  c .before .before .before .before .before .before .before .before .before .before .before .before .before .before .before .before .pre .0 .feasible-counts,
+  refl,
+  refl,
+  refl,
+  refl,
+)
+
+enum-known-place : tie.Need-enum-known-place
+enum-known-place c = search needs
+
+refused-requires-2 : tie.Need-refused-requires-2
+refused-requires-2 c κs = search needs
+
+enum-told : tie.Need-enum-told
+enum-told c = search needs
+
+fill-requires : tie.Need-fill-requires
+fill-requires c κs = (
+  clear-index (c .before .before .before .before .before .before .before .before .before .before .before .before .before .before .before .before .before .before .before .before .before .before .before .before .before .before .pre .0) (c .before .before .before .before .before .before .before .before .before .before .before .before .before .before .before .index .ensures),
+  sheeted (c .before .before .before .before .before .before .before .before .before .before .before .before .before .before .before .before .before .before .before .before .before .before .before .before .before .before .pre .0 .fits),
+  settled-walkable (c .before .before .before .before .before .before .before .before .before .before .before .before .before .before .before .before .before .before .before .before .before .before .before .before .before .before .pre .0) (c .before .before .before .before .before .before .before .before .before .before .before .before .before .before .before .before .before .too-many .ensures) (c .before .before .before .before .before .before .before .before .before .before .before .before .before .before .before .before .if1 .left) (c .before .before .before .before .before .before .before .before .before .choose .ensures) (c .before .before .before .before .before .before .before .enum-told .given .1),
+  c .before .before .before .before .before .before .before .before .before .before .before .before .before .before .before .before .before .before .before .before .before .before .before .before .before .before .pre .0 .nodes,
+  c .before .before .before .before .before .before .before .before .before .before .before .before .before .before .before .before .before .before .before .before .before .before .before .before .before .before .pre .0 .groups,
+  c .before .before .before .before .before .before .before .before .before .choose .ensures .plausible-long,
+  c .before .before .before .before .before .before .before .before .before .choose .ensures .ends-long,
+  c .before .before .before .before .before .before .before .before .before .choose .ensures .feasible-long,
+  c .before .before .before .before .before .before .before .before .before .choose .ensures .entries-long,
+)
+
+accepted-requires : tie.Need-accepted-requires
+accepted-requires c κs = search needs
+
+returns-2 : tie.Need-returns-2
+returns-2 c = settled-bad (c .before .before .before .before .before .before .before .before .before .before .before .before .before .before .before .before .before .before .before .before .before .pre .0) (c .before .before .before .before .before .before .before .before .before .before .before .before .too-many .ensures) (c .before .before .before .before .before .before .before .before .before .before .before .if1 .left) (c .before .before .before .before .choose .ensures) (c .before .before .place .given .1) (c .refused2 .ensures)
+
+same-length : tie.Need-same-length
+same-length c = search needs
+
+same-length-2 : tie.Need-same-length-2
+same-length-2 c = search needs
+
+returns-3 : tie.Need-returns-3
+returns-3 c = settled-well (c .before .before .before .before .before .before .before .before .before .before .before .before .before .before .before .before .before .before .before .before .before .before .before .before .before .before .before .before .before .before .before .before .pre .0) (c .before .before .before .before .before .before .before .before .before .before .before .before .before .before .before .before .before .before .before .before .before .before .before .too-many .ensures) (c .before .before .before .before .before .before .before .before .before .before .before .before .before .before .before .before .before .before .before .before .before .before .if1 .left) (c .before .before .before .before .before .before .before .before .before .before .before .before .before .before .before .choose .ensures) (c .before .before .before .before .before .before .before .before .before .before .before .before .before .enum-told .given .1) (c .before .before .before .before .before .before .before .before .before .before .before .before .before .before .before .before .before .before .before .before .before .before .before .before .before .before .before .before .before .before .before .before .pre .1) (c .before .before .before .before .before .before .before .before .before .before .before .before .before .before .before .before .before .before .before .before .before .before .before .before .before .before .before .before .before .before .before .before .pre .2) (c .before .before .before .before .before .fill .ensures) (c .accepted .ensures)
+
+pub settle-spec : {M : Type 1} → statement M
+settle-spec =
+    tie.close
+    (tie.spec
+    too-many-requires
+    refused-requires
+    returns
+    index-requires
+    choose-requires
+    enum-known-place
+    refused-requires-2
+    enum-told
+    fill-requires
+    accepted-requires
+    returns-2
+    same-length
+    same-length-2
+    returns-3)

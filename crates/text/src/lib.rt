@@ -1,0 +1,68 @@
+// Text on its way out: words and decimals gather in a lent buffer and go to a descriptor when the buffer is full, so that a number
+// costs no call of the system. The caller keeps the number of bytes held, and flushes what is left at the end.
+//
+// What goes out no contract can say; what stands in the buffer afterwards it does.
+ghost use mathlib.Core.Path.{_≡_};
+ghost use Prim.Native.Nat.{_+_, _≤_, _<_};
+ghost use lib.ListN.{length};
+ghost use Rattle.text.specs.Held.{laid, Put, PutDecimal};
+
+// Digits of the largest number.
+const MOST_DIGITS: usize = 20;
+
+// Writes out what is held; no more than the buffer has.
+pub fn flush(fd: i32, out: &[u8], held: usize) {
+    if held <= out.len() {
+        io::write_all(fd, &out[0..held]);
+    } else {
+        io::write_all(fd, out);
+    }
+}
+
+// Puts a word behind what is held, and answers how much is held then.
+pub fn word(fd: i32, out: &mut [u8], held: usize, w: &[u8]) -> usize
+    ensures { λ r. ⌜ Put (now (out .entry)) held (now (w .entry)) (now (out .exit)) r ⌝ }
+{
+    if out.len() < held {
+        return afresh(fd, out, held, w);
+    }
+    if out.len() - held < w.len() {
+        return afresh(fd, out, held, w);
+    }
+    lay(out, held, w);
+    held + w.len()
+}
+
+// The word has no room behind what is held, which goes out.
+fn afresh(fd: i32, out: &mut [u8], held: usize, w: &[u8]) -> usize
+    requires { ⌜ length (now out) < held + length (now w) ⌝ }
+    ensures { λ r. ⌜ Put (now (out .entry)) held (now (w .entry)) (now (out .exit)) r ⌝ }
+{
+    flush(fd, out, held);
+    if w.len() <= out.len() {
+        lay(out, 0, w);
+        return w.len();
+    }
+    io::write_all(fd, w);
+    0
+}
+
+// Puts a number's decimal digits behind what is held, and answers how much is held then.
+pub fn decimal(fd: i32, out: &mut [u8], held: usize, n: u64) -> usize
+    ensures { λ r. ⌜ PutDecimal (now (out .entry)) held n (now (out .exit)) r ⌝ }
+{
+    let mut digits = [0u8; MOST_DIGITS];
+    let k = io::decimal(n, &mut digits);
+    word(fd, out, held, &digits[..k])
+}
+
+fn lay(out: &mut [u8], at: usize, w: &[u8])
+    requires { ⌜ at + length (now w) ≤ length (now out) ⌝ }
+    ensures { λ _. ⌜ now (out .exit) ≡ laid (now (out .entry)) at (now (w .entry)) ⌝ }
+{
+    let mut i = 0;
+    while i < w.len() {
+        out[at + i] = w[i];
+        i += 1;
+    }
+}
