@@ -199,7 +199,7 @@ fn sweep_down(
         (DownMarks (now (book .entry)) (now (plausible .entry)) (now (counts .entry)) (now (marks .exit)))
         (now (feasible .entry)) (now (tally .entry)) (now (feasible .exit)) (now (tally .exit)) r ⌝ }
 {
-    let n = span(book::productions(book));
+    let n = book::productions(book) as usize;
     let mut turn = Turn::Still;
     let mut p = 0;
     while p < n {
@@ -257,7 +257,7 @@ fn seed(book: &[u8], plausible: &[u32], counts: &[u8], feasible: &mut [u32], tal
         × (told (now book) 3 < length (now tally)) ⌝ }
     ensures { λ _. ⌜ Seeded (told (now (book .entry)) 3) (now (plausible .entry)) (now (counts .entry)) (now (feasible .entry)) (now (tally .entry)) (now (feasible .exit)) (now (tally .exit)) ⌝ }
 {
-    let k = span(book::start(book));
+    let k = book::start(book) as usize;
     copy_members(plausible, k, count(counts, k), feasible, k * MAX_MEMBERS);
     tally[k] = counts[k];
 }
@@ -277,7 +277,7 @@ pub fn downward(
     ensures { λ r. ⌜ Outcome (kinds (now (book .entry))) (Feasible (grammar (now (book .entry))))
         (now (feasible .entry)) (now (tally .entry)) (now (feasible .exit)) (now (tally .exit)) r ⌝ }
 {
-    let n = span(book::kinds(book));
+    let n = book::kinds(book) as usize;
     slices::clear32(feasible, n * MAX_MEMBERS);
     slices::clear8(tally, n);
     seed(book, plausible, counts, feasible, tally);

@@ -162,7 +162,7 @@ pub fn fill_up(
     ensures { λ _. ⌜ UpTable (grammar (now (book .entry))) (now (sets .entry)) (now (counts .entry)) (now (up .exit))
         × Written (up-entries (grammar (now (book .entry))) (now (counts .entry))) (now (up .entry)) (now (up .exit)) ⌝ }
 {
-    let n = span(book::productions(book));
+    let n = book::productions(book) as usize;
     let mut at = 0;
     let mut p = 0;
     while p < n {
@@ -214,7 +214,7 @@ pub fn fill_down(
     ensures { λ _. ⌜ DownTable (grammar (now (book .entry))) (now (sets .entry)) (now (counts .entry)) (now (feasible .entry)) (now (sizes .entry)) (now (down .exit))
         × Written (down-entries (grammar (now (book .entry))) (now (counts .entry)) (now (sizes .entry)) * entry-bytes) (now (down .entry)) (now (down .exit)) ⌝ }
 {
-    let n = span(book::productions(book));
+    let n = book::productions(book) as usize;
     let mut at = 0;
     let mut p = 0;
     while p < n {

@@ -44,7 +44,7 @@ pub fn total_up(
     requires { ⌜ Opened (now book) (now places) × Small (now book) (now counts) ⌝ }
     ensures { λ r. ⌜ (r ≡ up-entries (grammar (now (book .entry))) (now (counts .entry))) × (r ≤ max-prods * max-members ^ max-kids) ⌝ }
 {
-    let n = span(book::productions(book));
+    let n = book::productions(book) as usize;
     let mut total: u64 = 0;
     let mut p = 0;
     while p < n {
@@ -72,7 +72,7 @@ pub fn total_down(
     requires { ⌜ Opened (now book) (now places) × Small (now book) (now counts) × Small (now book) (now feasible) ⌝ }
     ensures { λ r. ⌜ (r ≡ down-entries (grammar (now (book .entry))) (now (counts .entry)) (now (feasible .entry))) × (r ≤ max-prods * max-members ^ (1 + max-kids)) ⌝ }
 {
-    let n = span(book::productions(book));
+    let n = book::productions(book) as usize;
     let mut total: u64 = 0;
     let mut p = 0;
     while p < n {

@@ -116,7 +116,7 @@ fn sweep_up(
         (UpMarks (now (book .entry)) (now (marks .exit)))
         (now (sets .entry)) (now (counts .entry)) (now (sets .exit)) (now (counts .exit)) r ⌝ }
 {
-    let n = span(book::productions(book));
+    let n = book::productions(book) as usize;
     let mut turn = Turn::Still;
     let mut p = 0;
     while p < n {
@@ -153,7 +153,7 @@ pub fn upward(book: &[u8], places: &[usize], sets: &mut [u32], counts: &mut [u8]
     ensures { λ r. ⌜ Outcome (kinds (now (book .entry))) (Plausible (grammar (now (book .entry))))
         (now (sets .entry)) (now (counts .entry)) (now (sets .exit)) (now (counts .exit)) r ⌝ }
 {
-    let n = span(book::kinds(book));
+    let n = book::kinds(book) as usize;
     slices::clear32(sets, n * MAX_MEMBERS);
     slices::clear8(counts, n);
     close_up(book, places, sets, counts)

@@ -13,8 +13,8 @@ use Rattle.tables.proofs.downward.seed.Tie as tie
 start-requires : tie.Need-start-requires
 start-requires c κs = search needs
 
-span-requires : tie.Need-span-requires
-span-requires c κs = search needs
+cast-k : tie.Need-cast-k
+cast-k c = search needs
 
 count-requires : tie.Need-count-requires
 count-requires c κs = search needs
@@ -24,10 +24,10 @@ mul-copy-members c = search needs
 
 copy-members-requires : tie.Need-copy-members-requires
 copy-members-requires c κs =
-    let k = c .before .before .span .result in
-    let e : k ≡ told (c .before .before .before .before .before .before .before .before .before .args .book .now) 3 = c .before .before .span .ensures .0 ∙ c .before .before .before .start .ensures in
-    let q : Placed (c .before .before .before .before .before .before .before .before .before .args .plausible .now) (c .before .before .before .before .before .before .before .before .before .args .counts .now) k = rw e (c .before .before .before .before .before .before .before .before .before .pre .0) in
-    let h : k * max-members + max-members ≤ length (c .before .before .before .before .before .before .before .before .before .args .feasible .now) = rw e (c .before .before .before .before .before .before .before .before .before .pre .1) in
+    let k = c .before .before .start .result in
+    let e : k ≡ told (c .before .before .before .before .before .before .before .before .args .book .now) 3 = c .before .before .start .ensures in
+    let q : Placed (c .before .before .before .before .before .before .before .before .args .plausible .now) (c .before .before .before .before .before .before .before .before .args .counts .now) k = rw e (c .before .before .before .before .before .before .before .before .pre .0) in
+    let h : k * max-members + max-members ≤ length (c .before .before .before .before .before .before .before .before .args .feasible .now) = rw e (c .before .before .before .before .before .before .before .before .pre .1) in
     (omega (arith, q .there, q .few), omega (arith, q .few))
 
 shared-slice-read-tally : tie.Need-shared-slice-read-tally
@@ -44,8 +44,8 @@ same-length-2 c = search needs
 
 returns : tie.Need-returns
 returns c = record {
-  held = c .before .before .before .copy-members .ensures ∙ rw (c .before .before .before .before .before .count .ensures .0, c .before .before .before .before .before .before .span .ensures .0, c .before .before .before .before .before .before .before .start .ensures);
-  counted = rw (c .before .before .before .before .before .before .span .ensures .0, c .before .before .before .before .before .before .before .start .ensures);
+  held = c .before .before .before .copy-members .ensures ∙ rw (c .before .before .before .before .before .count .ensures .0, c .before .before .before .before .before .before .start .ensures);
+  counted = rw (c .before .before .before .before .before .before .start .ensures);
 }
 
 pub seed-spec : {M : Type 1} → statement M
@@ -53,7 +53,7 @@ seed-spec =
     tie.close
     (tie.spec
     start-requires
-    span-requires
+    cast-k
     count-requires
     mul-copy-members
     copy-members-requires

@@ -1,4 +1,5 @@
 -- The down table. Assumes nothing.
+use mathlib.Core.Path.{refl}
 use borrow.Author.Needs.{needs}
 use Prim.Native.Nat.{_-_}
 use native.Mathlib.Omega.{arith}
@@ -15,18 +16,18 @@ abbrev μ-loop : tie.MeasureT-loop
 productions-requires : tie.Need-productions-requires Inv-loop μ-loop
 productions-requires c κs = search needs
 
-span-requires : tie.Need-span-requires Inv-loop μ-loop
-span-requires c κs = search needs
+cast-n : tie.Need-cast-n Inv-loop μ-loop
+cast-n c = search needs
 
 loop-holds : tie.Need-loop-holds Inv-loop μ-loop
 loop-holds c =
-    let o = c .before .before .before .before .before .before .before .before in
+    let o = c .before .before .before .before .before .before .before in
     let a = o .args in
-    down-begun (o .pre .0) (a .sets .now) (a .counts .now) (a .feasible .now) (a .sizes .now) (c .span .ensures .0) (c .before .productions .ensures) (o .pre .3)
+    down-begun (o .pre .0) (a .sets .now) (a .counts .now) (a .feasible .now) (a .sizes .now) refl (c .productions .ensures) (o .pre .3)
 
 down-run-requires : tie.Need-down-run-requires Inv-loop μ-loop
 down-run-requires c κs =
-    let o = c .before .before .before .before .before .before .before .before .before .before .before .pre in
+    let o = c .before .before .before .before .before .before .before .before .before .before .pre in
     let h = c .before .before .loop .inv in
     let l = c .before .loop-test .taken in
     (o .0, down-below h l, o .1, o .2, down-room h l)
@@ -53,7 +54,7 @@ fill-down-spec =
     Inv-loop
     μ-loop
     productions-requires
-    span-requires
+    cast-n
     loop-holds
     down-run-requires
     add-p

@@ -1,4 +1,5 @@
 -- The up table. Assumes nothing.
+use mathlib.Core.Path.{refl}
 use borrow.Author.Needs.{needs}
 use Prim.Native.Nat.{_-_}
 use native.Mathlib.Omega.{arith}
@@ -15,17 +16,17 @@ abbrev μ-loop : tie.MeasureT-loop
 productions-requires : tie.Need-productions-requires Inv-loop μ-loop
 productions-requires c κs = search needs
 
-span-requires : tie.Need-span-requires Inv-loop μ-loop
-span-requires c κs = search needs
+cast-n : tie.Need-cast-n Inv-loop μ-loop
+cast-n c = search needs
 
 loop-holds : tie.Need-loop-holds Inv-loop μ-loop
 loop-holds c =
-    let o = c .before .before .before .before .before .before in
-    up-begun (o .pre .0) (o .args .sets .now) (o .args .counts .now) (c .span .ensures .0) (c .before .productions .ensures) (o .pre .2)
+    let o = c .before .before .before .before .before in
+    up-begun (o .pre .0) (o .args .sets .now) (o .args .counts .now) refl (c .productions .ensures) (o .pre .2)
 
 up-run-requires : tie.Need-up-run-requires Inv-loop μ-loop
 up-run-requires c κs =
-    let o = c .before .before .before .before .before .before .before .before .before .pre in
+    let o = c .before .before .before .before .before .before .before .before .pre in
     let h = c .before .before .loop .inv in
     let l = c .before .loop-test .taken in
     (o .0, up-below h l, o .1, up-room h l)
@@ -52,7 +53,7 @@ fill-up-spec =
     Inv-loop
     μ-loop
     productions-requires
-    span-requires
+    cast-n
     loop-holds
     up-run-requires
     add-p
