@@ -26,7 +26,6 @@ use super::visit::looking_at;
 use super::visit::open_turn;
 use super::visit::visit;
 use super::widen::narrow;
-use super::widen::span;
 use super::widen::wide;
 use super::widen::word;
 
@@ -60,9 +59,9 @@ fn open_down(
 {
     let slot = slot_down(t, j);
     if slot == 0 {
-        return open_turn(v, wide(j), slot, book, at, feasible, tally, lists);
+        return open_turn(v, j as usize, slot, book, at, feasible, tally, lists);
     }
-    open_turn(v, wide(j), slot, book, at, plausible, counts, lists)
+    open_turn(v, j as usize, slot, book, at, plausible, counts, lists)
 }
 
 // All slots in turn; the results are seen on the child in slot t.
@@ -115,7 +114,7 @@ fn visit_down(
         book,
         at,
         v,
-        wide(book::arity(book, at)) + 1,
+        book::arity(book, at) as usize + 1,
         &lists,
         feasible,
         tally,

@@ -24,7 +24,6 @@ use super::sets::MAX_MEMBERS;
 use super::sets::count;
 use super::shape::Shape;
 use super::shape::shape_of;
-use super::widen::span;
 use super::widen::wide;
 
 const PRODUCTIONS: usize = book::limits::MAX_PRODUCTIONS as usize;

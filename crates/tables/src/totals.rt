@@ -10,7 +10,6 @@ ghost use Rattle.tables.specs.Shape.{Opened, Small, Countable, kinds-fro
 use super::shape::Shape;
 use super::shape::shape_of;
 use super::widen::far;
-use super::widen::span;
 use super::widen::wide;
 
 // The number of members of a kind.

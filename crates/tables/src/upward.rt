@@ -22,7 +22,6 @@ use super::visit::MARKS;
 use super::visit::looking_at;
 use super::visit::open_turn;
 use super::visit::visit;
-use super::widen::span;
 use super::widen::wide;
 use super::widen::word;
 
@@ -36,7 +35,7 @@ fn prepare_up(book: &[u8], at: usize, sets: &[u32], counts: &[u8], lists: &mut [
     let mut v = looking_at(book, at, 0);
     let mut j: u8 = 0;
     while j < n {
-        v = open_turn(v, wide(j), j + 1, book, at, sets, counts, lists);
+        v = open_turn(v, j as usize, j + 1, book, at, sets, counts, lists);
         j += 1;
     }
     v
@@ -55,7 +54,7 @@ fn visit_up(book: &[u8], at: usize, sets: &mut [u32], counts: &mut [u8]) -> Turn
         book,
         at,
         v,
-        wide(book::arity(book, at)),
+        book::arity(book, at) as usize,
         &lists,
         sets,
         counts,

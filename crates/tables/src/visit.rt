@@ -21,7 +21,6 @@ use super::sets::MAX_MEMBERS;
 use super::sets::Turn;
 use super::sets::copy_members;
 use super::sets::count;
-use super::widen::wide;
 
 // A mark for each production, by which a visit is spared.
 pub const MARKS: usize = book::limits::MAX_PRODUCTIONS as usize;
@@ -57,7 +56,7 @@ pub fn open_turn(
     requires { ⌜ (j < max-turns) × (length (now lists) ≡ max-turns * max-members) × Placed (now sets) (now counts) (kind-in (now book) at slot) ⌝ }
     ensures { λ r. ⌜ Opened (now (book .entry)) at (now (sets .entry)) (now (counts .entry)) v j slot (now (lists .entry)) r (now (lists .exit)) ⌝ }
 {
-    let kind = wide(book::kind_in(book, at, slot));
+    let kind = book::kind_in(book, at, slot) as usize;
     copy_members(sets, kind, count(counts, kind), lists, j * MAX_MEMBERS);
     let mut w = v;
     w.slots[j] = slot;

@@ -12,60 +12,52 @@ use Rattle.tables.proofs.downward.open_down.Tie as tie
 slot-down-requires : tie.Need-slot-down-requires
 slot-down-requires c κs = search needs
 
-wide-requires : tie.Need-wide-requires
-wide-requires c κs = search needs
-
 open-turn-requires : tie.Need-open-turn-requires
 open-turn-requires c κs =
-    let o = c .before .before .before .before .before .before .before .before .before .before in
+    let o = c .before .before .before .before .before .before .before .before .before in
     let s = slot-down (o .args .t) (o .args .j) in
-    let z : s ≡ 0 = sym (c .before .before .before .slot-down .ensures) ∙ c .before .before .if1 .taken in
+    let z : s ≡ 0 = sym (c .before .before .slot-down .ensures) ∙ c .before .if1 .taken in
     let p = o .pre .2 in
-    (omega (arith, o .pre .0), o .pre .1, rw (c .before .before .before .slot-down .ensures) (subst₂ (λ u w. Placed u w (kind-in (o .args .book .now) (o .args .at) s)) (given-left _ _ s z) (given-left _ _ s z) p))
+    (omega (arith, o .pre .0), o .pre .1, rw (c .before .before .slot-down .ensures) (subst₂ (λ u w. Placed u w (kind-in (o .args .book .now) (o .args .at) s)) (given-left _ _ s z) (given-left _ _ s z) p))
 
 same-length : tie.Need-same-length
 same-length c = search needs
 
 returns : tie.Need-returns
 returns c =
-    let o = c .before .before .before .before .before .before .before .before .before .before .before .before .before in
+    let o = c .before .before .before .before .before .before .before .before .before .before .before .before in
     let s = slot-down (o .args .t) (o .args .j) in
-    let z : s ≡ 0 = sym (c .before .before .before .before .before .before .slot-down .ensures) ∙ c .before .before .before .before .before .if1 .taken in
+    let z : s ≡ 0 = sym (c .before .before .before .before .before .slot-down .ensures) ∙ c .before .before .before .before .if1 .taken in
     rw (given-left (o .args .feasible .now) (o .args .plausible .now) s z, given-left (o .args .tally .now) (o .args .counts .now) s z)
-    (rw (c .before .before .before .before .wide .ensures .0, c .before .before .before .before .before .before .slot-down .ensures) at (c .before .before .open-turn .ensures))
-
-wide-requires-2 : tie.Need-wide-requires-2
-wide-requires-2 c κs = search needs
+    (rw (c .before .before .before .before .before .slot-down .ensures) at (c .before .before .open-turn .ensures))
 
 open-turn-requires-2 : tie.Need-open-turn-requires-2
 open-turn-requires-2 c κs =
-    let o = c .before .before .before .before .before .before .before .before .before .before in
+    let o = c .before .before .before .before .before .before .before .before .before in
     let s = slot-down (o .args .t) (o .args .j) in
-    let z : (s ≡ 0 → ⊥) = λ q. c .before .before .if1 .left (c .before .before .before .slot-down .ensures ∙ q) in
+    let z : (s ≡ 0 → ⊥) = λ q. c .before .if1 .left (c .before .before .slot-down .ensures ∙ q) in
     let p = o .pre .2 in
-    (omega (arith, o .pre .0), o .pre .1, rw (c .before .before .before .slot-down .ensures) (subst₂ (λ u w. Placed u w (kind-in (o .args .book .now) (o .args .at) s)) (given-child _ _ s z) (given-child _ _ s z) p))
+    (omega (arith, o .pre .0), o .pre .1, rw (c .before .before .slot-down .ensures) (subst₂ (λ u w. Placed u w (kind-in (o .args .book .now) (o .args .at) s)) (given-child _ _ s z) (given-child _ _ s z) p))
 
 same-length-2 : tie.Need-same-length-2
 same-length-2 c = search needs
 
 returns-2 : tie.Need-returns-2
 returns-2 c =
-    let o = c .before .before .before .before .before .before .before .before .before .before .before .before .before in
+    let o = c .before .before .before .before .before .before .before .before .before .before .before .before in
     let s = slot-down (o .args .t) (o .args .j) in
-    let z : (s ≡ 0 → ⊥) = λ q. c .before .before .before .before .before .if1 .left (c .before .before .before .before .before .before .slot-down .ensures ∙ q) in
+    let z : (s ≡ 0 → ⊥) = λ q. c .before .before .before .before .if1 .left (c .before .before .before .before .before .slot-down .ensures ∙ q) in
     rw (given-child (o .args .feasible .now) (o .args .plausible .now) s z, given-child (o .args .tally .now) (o .args .counts .now) s z)
-    (rw (c .before .before .before .before .wide2 .ensures .0, c .before .before .before .before .before .before .slot-down .ensures) at (c .before .before .open-turn2 .ensures))
+    (rw (c .before .before .before .before .before .slot-down .ensures) at (c .before .before .open-turn2 .ensures))
 
 pub open-down-spec : {M : Type 1} → statement M
 open-down-spec =
     tie.close
     (tie.spec
     slot-down-requires
-    wide-requires
     open-turn-requires
     same-length
     returns
-    wide-requires-2
     open-turn-requires-2
     same-length-2
     returns-2)

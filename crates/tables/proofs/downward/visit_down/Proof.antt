@@ -23,8 +23,8 @@ prepare-down-requires c κs =
 arity-requires : tie.Need-arity-requires
 arity-requires c κs = search needs
 
-wide-requires : tie.Need-wide-requires
-wide-requires c κs = search needs
+cast-visit : tie.Need-cast-visit
+cast-visit c = search needs
 
 add-visit : tie.Need-add-visit
 add-visit c = search needs
@@ -34,9 +34,9 @@ slice-aggregate-visit c = search needs
 
 visit-requires : tie.Need-visit-requires
 visit-requires c κs =
-    let (a, (p, j, l, e, hj, q), s, f) = c .before .before .before .before .before .before .before .before .before .before .before .before .before .before .before .pre in
-    let n : c .before .before .before .wide .result + 1 ≡ suc (arity-at (c .before .before .before .before .before .before .before .before .before .before .before .before .before .before .before .args .book .now) (c .before .before .before .before .before .before .before .before .before .before .before .before .before .before .before .args .at)) = omega arith in
-    rw (n, e) (down-prepared a p l f s j hj (rw (e, q) at (c .before .before .before .before .before .before .prepare-down .ensures)))
+    let (a, (p, j, l, e, hj, q), s, f) = c .before .before .before .before .before .before .before .before .before .before .before .before .before .before .pre in
+    let n : c .before .before .before .arity .result + 1 ≡ suc (arity-at (c .before .before .before .before .before .before .before .before .before .before .before .before .before .before .args .book .now) (c .before .before .before .before .before .before .before .before .before .before .before .before .before .before .args .at)) = omega arith in
+    rw (n, e) (down-prepared a p l f s j hj (rw (e, q) at (c .before .before .before .before .before .prepare-down .ensures)))
 
 same-length : tie.Need-same-length
 same-length c = search needs
@@ -46,9 +46,9 @@ same-length-2 c = search needs
 
 returns : tie.Need-returns
 returns c = λ p j l e hj q.
-    let (a, o, s, f) = c .before .before .before .before .before .before .before .before .before .before .before .before .before .before .before .before .before .before .before .before .pre in
-    let n : c .before .before .before .before .before .before .before .before .wide .result + 1 ≡ suc (arity-at (c .before .before .before .before .before .before .before .before .before .before .before .before .before .before .before .before .before .before .before .before .args .book .now) (c .before .before .before .before .before .before .before .before .before .before .before .before .before .before .before .before .before .before .before .before .args .at)) = omega arith in
-    down-gathers a p l f s j hj (rw (e, q) at (c .before .before .before .before .before .before .before .before .before .before .before .prepare-down .ensures)) (rw (n, e) at (c .before .before .before .before .visit .ensures))
+    let (a, o, s, f) = c .before .before .before .before .before .before .before .before .before .before .before .before .before .before .before .before .before .before .before .pre in
+    let n : c .before .before .before .before .before .before .before .before .arity .result + 1 ≡ suc (arity-at (c .before .before .before .before .before .before .before .before .before .before .before .before .before .before .before .before .before .before .before .args .book .now) (c .before .before .before .before .before .before .before .before .before .before .before .before .before .before .before .before .before .before .before .args .at)) = omega arith in
+    down-gathers a p l f s j hj (rw (e, q) at (c .before .before .before .before .before .before .before .before .before .before .prepare-down .ensures)) (rw (n, e) at (c .before .before .before .before .visit .ensures))
 
 pub visit-down-spec : {M : Type 1} → statement M
 visit-down-spec =
@@ -57,7 +57,7 @@ visit-down-spec =
     slice-aggregate-prepare-down
     prepare-down-requires
     arity-requires
-    wide-requires
+    cast-visit
     add-visit
     slice-aggregate-visit
     visit-requires

@@ -1,6 +1,6 @@
 -- The children in turn. Assumes nothing.
 use Rattle.book.specs.Format.{arity-at}
-use mathlib.Core.Path.{_≡_, sym, _∙_}
+use mathlib.Core.Path.{refl, _≡_, sym, _∙_}
 use Prim.Native.Nat.{suc, _+_, _≤_, _-_}
 use Rattle.tables.specs.Visit.{Opening}
 use Rattle.tables.proofs.Opening.{opening-more}
@@ -24,17 +24,17 @@ looking-at-requires c κs = search needs
 loop-holds : tie.Need-loop-holds Inv-loop μ-loop
 loop-holds c = (omega arith, c .looking-at .ensures _ _ _ _ (c .before .before .before .before .before .before .pre .1))
 
-wide-requires : tie.Need-wide-requires Inv-loop μ-loop
-wide-requires c κs = search needs
+cast-open-turn : tie.Need-cast-open-turn Inv-loop μ-loop
+cast-open-turn c = search needs
 
 add-open-turn : tie.Need-add-open-turn Inv-loop μ-loop
 add-open-turn c = search needs
 
 open-turn-requires : tie.Need-open-turn-requires Inv-loop μ-loop
 open-turn-requires c κs =
-    let h = c .before .before .before .loop .inv in
-    let p = c .before .before .before .before .before .before .before .before .before .before .pre in
-    (omega (arith, p .0), h .1 .sized .lists, p .2 (c .before .before .before .loop .j + 1) (omega arith))
+    let h = c .before .before .loop .inv in
+    let p = c .before .before .before .before .before .before .before .before .before .pre in
+    (omega (arith, p .0), h .1 .sized .lists, p .2 (c .before .before .loop .j + 1) (omega arith))
 
 add-j : tie.Need-add-j Inv-loop μ-loop
 add-j c = search needs
@@ -44,9 +44,9 @@ loop-less c = search needs
 
 loop-again : tie.Need-loop-again Inv-loop μ-loop
 loop-again c =
-    let h = c .before .before .before .before .before .before .loop .inv in
-    let p = c .before .before .before .before .before .before .before .before .before .before .before .before .before .pre in
-    (omega arith, opening-more (h .1) (omega (arith, p .0)) (c .before .before .before .before .wide .ensures .0) (omega arith) (p .2 (suc (c .before .before .before .before .before .before .loop .j)) (omega arith)) (c .before .before .open-turn .ensures))
+    let h = c .before .before .before .before .before .loop .inv in
+    let p = c .before .before .before .before .before .before .before .before .before .before .before .before .pre in
+    (omega arith, opening-more (h .1) (omega (arith, p .0)) (refl) (omega arith) (p .2 (suc (c .before .before .before .before .before .loop .j)) (omega arith)) (c .before .before .open-turn .ensures))
 
 same-length : tie.Need-same-length Inv-loop μ-loop
 same-length c = c .before .loop .inv .1 .sized .lists ∙ sym (c .before .before .before .before .before .before .before .before .pre .1)
@@ -66,7 +66,7 @@ prepare-up-spec =
     arity-requires
     looking-at-requires
     loop-holds
-    wide-requires
+    cast-open-turn
     add-open-turn
     open-turn-requires
     add-j

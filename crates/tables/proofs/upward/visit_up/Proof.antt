@@ -17,16 +17,16 @@ prepare-up-requires c κs =
 arity-requires : tie.Need-arity-requires
 arity-requires c κs = search needs
 
-wide-requires : tie.Need-wide-requires
-wide-requires c κs = search needs
+cast-visit : tie.Need-cast-visit
+cast-visit c = search needs
 
 slice-aggregate-visit : tie.Need-slice-aggregate-visit
 slice-aggregate-visit c = search needs
 
 visit-requires : tie.Need-visit-requires
 visit-requires c κs =
-    let (a, (p, l, e), f) = c .before .before .before .before .before .before .before .before .before .before .before .before .before .pre in
-    rw (c .before .before .before .wide .ensures .0, c .before .before .before .before .arity .ensures, e) (up-prepared a p l f (rw e at (c .before .before .before .before .before .before .prepare-up .ensures)))
+    let (a, (p, l, e), f) = c .before .before .before .before .before .before .before .before .before .before .before .before .pre in
+    rw (c .before .before .before .arity .ensures, e) (up-prepared a p l f (rw e at (c .before .before .before .before .before .prepare-up .ensures)))
 
 same-length : tie.Need-same-length
 same-length c = search needs
@@ -36,8 +36,8 @@ same-length-2 c = search needs
 
 returns : tie.Need-returns
 returns c = λ p l e.
-    let (a, q, f) = c .before .before .before .before .before .before .before .before .before .before .before .before .before .before .before .before .before .before .pre in
-    up-gathers a p l f (rw e at (c .before .before .before .before .before .before .before .before .before .before .before .prepare-up .ensures)) (rw (c .before .before .before .before .before .before .before .before .wide .ensures .0, c .before .before .before .before .before .before .before .before .before .arity .ensures, e) at (c .before .before .before .before .visit .ensures))
+    let (a, q, f) = c .before .before .before .before .before .before .before .before .before .before .before .before .before .before .before .before .before .pre in
+    up-gathers a p l f (rw e at (c .before .before .before .before .before .before .before .before .before .before .prepare-up .ensures)) (rw (c .before .before .before .before .before .before .before .before .arity .ensures, e) at (c .before .before .before .before .visit .ensures))
 
 pub visit-up-spec : {M : Type 1} → statement M
 visit-up-spec =
@@ -46,7 +46,7 @@ visit-up-spec =
     slice-aggregate-prepare-up
     prepare-up-requires
     arity-requires
-    wide-requires
+    cast-visit
     slice-aggregate-visit
     visit-requires
     same-length

@@ -9,8 +9,8 @@ use Rattle.tables.proofs.visit.open_turn.Tie as tie
 kind-in-requires : tie.Need-kind-in-requires
 kind-in-requires c κs = search needs
 
-wide-requires : tie.Need-wide-requires
-wide-requires c κs = search needs
+cast-kind : tie.Need-cast-kind
+cast-kind c = search needs
 
 count-requires : tie.Need-count-requires
 count-requires c κs = search needs
@@ -20,8 +20,8 @@ mul-copy-members c = search needs
 
 copy-members-requires : tie.Need-copy-members-requires
 copy-members-requires c κs =
-    let o = c .before .before .before .before .before .before .before .before in
-    let q : Placed (o .args .sets .now) (o .args .counts .now) (c .before .before .wide .result) = rw (c .before .before .wide .ensures .0, c .before .before .before .kind-in .ensures) (o .pre .2) in
+    let o = c .before .before .before .before .before .before .before in
+    let q : Placed (o .args .sets .now) (o .args .counts .now) (c .before .before .kind-in .result) = rw (c .before .before .kind-in .ensures) (o .pre .2) in
     (omega (arith, q .there, q .few), omega (arith, q .few, o .pre .1))
 
 element-write-w : tie.Need-element-write-w
@@ -47,9 +47,9 @@ returns c =
     record {
       slots-now = refl;
       widths-now = rw (c .before .width .ensures);
-      sizes-now = rw (c .before .before .before .before .before .before .before .wide .ensures .0, c .before .before .before .before .before .before .before .before .kind-in .ensures);
+      sizes-now = rw (c .before .before .before .before .before .before .before .kind-in .ensures);
       rest = (refl, refl, refl);
-      lists-now = c .before .before .before .before .copy-members .ensures ∙ rw (c .before .before .before .before .before .before .count .ensures .0, c .before .before .before .before .before .before .before .wide .ensures .0, c .before .before .before .before .before .before .before .before .kind-in .ensures);
+      lists-now = c .before .before .before .before .copy-members .ensures ∙ rw (c .before .before .before .before .before .before .count .ensures .0, c .before .before .before .before .before .before .before .kind-in .ensures);
     }
 
 pub open-turn-spec : {M : Type 1} → statement M
@@ -57,7 +57,7 @@ open-turn-spec =
     tie.close
     (tie.spec
     kind-in-requires
-    wide-requires
+    cast-kind
     count-requires
     mul-copy-members
     copy-members-requires
