@@ -31,7 +31,7 @@ fn rank_on(v: Shape, slot: usize, s: &[u8; LABELS], sets: &[u32], counts: &[u8])
     requires { ⌜ InPlace (now sets) (now counts) v (now s) × (slot ≤ v .arity) × Listed (now sets) (now counts) v slot (now s) ⌝ }
     ensures { λ r. ⌜ RankOn (now (sets .entry)) (now (counts .entry)) v slot (now (s .entry)) r ⌝ }
 {
-    let kind = wide(v.kinds[slot]);
+    let kind = v.kinds[slot] as usize;
     let code = view(s, slot as u8, v.widths[slot]);
     rank(sets, kind, count(counts, kind), code) as u8
 }

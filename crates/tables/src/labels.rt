@@ -105,8 +105,8 @@ pub fn base(book: &[u8], at: usize, s: &mut [u8; LABELS])
     while i < n {
         merge(
             s,
-            wide(book::to(book, at, i)),
-            wide(book::from(book, at, i)),
+            book::to(book, at, i) as usize,
+            book::from(book, at, i) as usize,
         );
         i += 1;
     }
@@ -174,7 +174,7 @@ fn number(numbers: &mut [u8; LABELS], x: u8, next: u8) -> u8
     requires { ⌜ (x < labels) × (length (now numbers) ≡ labels) ⌝ }
     ensures { λ r. ⌜ Numbered (now (numbers .entry)) x next (now (numbers .exit)) r ⌝ }
 {
-    let at = wide(x);
+    let at = x as usize;
     let k = numbers[at];
     if k == NONE {
         numbers[at] = next;

@@ -58,7 +58,7 @@ fn choices_down(v: Shape, counts: &[u8], feasible: &[u8]) -> u64
     requires { ⌜ Countable v (now counts) × Countable v (now feasible) ⌝ }
     ensures { λ r. ⌜ (r ≡ getD (now (feasible .entry)) (getD (v .kinds) 0 0) 0 * choices (now (counts .entry)) (kinds-from v 1)) × (r ≤ max-members ^ (1 + max-kids)) ⌝ }
 {
-    count(feasible, wide(v.kinds[0])) * choices(v, counts)
+    count(feasible, v.kinds[0] as usize) * choices(v, counts)
 }
 
 // The down entries of all productions.

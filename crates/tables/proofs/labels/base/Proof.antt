@@ -26,20 +26,20 @@ loop-holds c =
 to-requires : tie.Need-to-requires Inv-loop μ-loop
 to-requires c κs = search needs
 
-wide-requires : tie.Need-wide-requires Inv-loop μ-loop
-wide-requires c κs = search needs
+cast-merge : tie.Need-cast-merge Inv-loop μ-loop
+cast-merge c = search needs
 
 from-requires : tie.Need-from-requires Inv-loop μ-loop
 from-requires c κs = search needs
 
-wide-requires-2 : tie.Need-wide-requires-2 Inv-loop μ-loop
-wide-requires-2 c κs = search needs
+cast-merge-2 : tie.Need-cast-merge-2 Inv-loop μ-loop
+cast-merge-2 c = search needs
 
 merge-requires : tie.Need-merge-requires Inv-loop μ-loop
 merge-requires c κs =
-    let o = c .before .before .before .before .before .before in
-    let l = rw (o .before .pairs .ensures) at (c .before .before .before .before .before .loop-test .taken) in
-    base-low (o .loop .inv) (c .before .before .before .before .before .before .before .before .before .before .before .pre .1) l (c .before .before .wide .ensures .0 ∙ c .before .before .before .to .ensures) (c .wide2 .ensures .0 ∙ c .before .from .ensures)
+    let o = c .before .before .before .before in
+    let l = rw (o .before .pairs .ensures) at (c .before .before .before .loop-test .taken) in
+    base-low (o .loop .inv) (c .before .before .before .before .before .before .before .before .before .pre .1) l (c .before .to .ensures) (c .from .ensures)
 
 add-i : tie.Need-add-i Inv-loop μ-loop
 add-i c = search needs
@@ -49,9 +49,9 @@ loop-less c = search needs
 
 loop-again : tie.Need-loop-again Inv-loop μ-loop
 loop-again c =
-    let o = c .before .before .before .before .before .before .before in
-    let l = rw (o .before .pairs .ensures) at (c .before .before .before .before .before .before .loop-test .taken) in
-    base-turn (o .loop .inv) (c .before .before .before .before .before .before .before .before .before .before .before .before .pre .1) _ _ _ l (c .before .before .before .wide .ensures .0 ∙ c .before .before .before .before .to .ensures) (c .before .wide2 .ensures .0 ∙ c .before .before .from .ensures) (c .merge .ensures)
+    let o = c .before .before .before .before .before in
+    let l = rw (o .before .pairs .ensures) at (c .before .before .before .before .loop-test .taken) in
+    base-turn (o .loop .inv) (c .before .before .before .before .before .before .before .before .before .before .pre .1) _ _ _ l (c .before .before .to .ensures) (c .before .from .ensures) (c .merge .ensures)
 
 returns : tie.Need-returns Inv-loop μ-loop
 returns c = base-done (c .before .loop .inv) (c .before .before .before .before .before .before .pre .1) (rw (c .before .before .pairs .ensures) at (c .loop-test .left))
@@ -66,9 +66,9 @@ base-spec =
     pairs-requires
     loop-holds
     to-requires
-    wide-requires
+    cast-merge
     from-requires
-    wide-requires-2
+    cast-merge-2
     merge-requires
     add-i
     loop-less
