@@ -86,7 +86,7 @@ pub fn gather(
         return Turn::Still;
     }
     let k = j - 1;
-    let n = wide(v.sizes[k]);
+    let n = v.sizes[k] as usize;
     let mut t = [NONE; LABELS];
     let mut turn = Turn::Still;
     let mut i = 0;
