@@ -171,7 +171,7 @@ fn attend_down(
         (DownMarks (now (book .entry)) (now (plausible .entry)) (now (counts .entry)) (now (marks .exit)))
         (now (feasible .entry)) (now (tally .entry)) (now (feasible .exit)) (now (tally .exit)) r ⌝ }
 {
-    let mark = word(tally[wide(book::left(book, at))]) + 1;
+    let mark = word(tally[book::left(book, at) as usize]) + 1;
     if marks[p] == mark {
         return Turn::Still;
     }

@@ -62,7 +62,7 @@ fn enter(v: Visit, s: &[u8; LABELS], sets: &mut [u32], counts: &mut [u8]) -> Tur
     requires { ⌜ Ready v 0 × Standing v 0 (now s) × InOrder (v .kind) (now sets) (now counts) ⌝ }
     ensures { λ r. ⌜ Put (v .kind) (code-on (v .target) (v .width) (now (s .entry))) (now (sets .entry)) (now (counts .entry)) (now (sets .exit)) (now (counts .exit)) r ⌝ }
 {
-    put(sets, counts, wide(v.kind), view(s, v.target, v.width))
+    put(sets, counts, v.kind as usize, view(s, v.target, v.width))
 }
 
 // Whatever comes of the state s by choices for the turns before j is put into the kind's set. The state may have been met before: then all of that is

@@ -70,7 +70,7 @@ fn watched_up(book: &[u8], at: usize, counts: &[u8]) -> u16
     let mut sum: u16 = 1;
     let mut i: u8 = 0;
     while i < n {
-        sum += word(counts[wide(book::kid(book, at, i))]);
+        sum += word(counts[book::kid(book, at, i) as usize]);
         i += 1;
     }
     sum

@@ -4,8 +4,8 @@ use Rattle.tables.proofs.Memory.{fine-placed}
 use Rattle.tables.proofs.gather.enter.Statement.{statement}
 use Rattle.tables.proofs.gather.enter.Tie as tie
 
-wide-requires : tie.Need-wide-requires
-wide-requires c κs = search needs
+cast-put : tie.Need-cast-put
+cast-put c = search needs
 
 view-requires : tie.Need-view-requires
 view-requires c κs = search needs
@@ -13,7 +13,7 @@ view-requires c κs = search needs
 put-requires : tie.Need-put-requires
 put-requires c κs =
     let o = c .before .before .before .before .before .before .pre .2 in
-    rw (c .before .wide .ensures .0) (fine-placed (o .fine) _ (o .below), o .fine .rising _ (o .below))
+    (fine-placed (o .fine) _ (o .below), o .fine .rising _ (o .below))
 
 same-length : tie.Need-same-length
 same-length c = search needs
@@ -22,7 +22,7 @@ same-length-2 : tie.Need-same-length-2
 same-length-2 c = search needs
 
 returns : tie.Need-returns
-returns c = rw (← c .before .before .before .before .before .before .wide .ensures .0, ← c .before .before .before .before .before .view .ensures) (c .before .before .before .before .put .ensures)
+returns c = rw (← c .before .before .before .before .before .view .ensures) (c .before .before .before .before .put .ensures)
 
 pub enter-spec : {M : Type 1} → statement M
-enter-spec = tie.close (tie.spec wide-requires view-requires put-requires same-length same-length-2 returns)
+enter-spec = tie.close (tie.spec cast-put view-requires put-requires same-length same-length-2 returns)

@@ -26,11 +26,11 @@ loop-holds c = (omega arith, ap suc (sym (total-none _ _)), omega arith)
 kid-requires : tie.Need-kid-requires Inv-loop μ-loop
 kid-requires c κs = search needs
 
-wide-requires : tie.Need-wide-requires Inv-loop μ-loop
-wide-requires c κs = search needs
+cast-word : tie.Need-cast-word Inv-loop μ-loop
+cast-word c = search needs
 
 shared-slice-read-word : tie.Need-shared-slice-read-word Inv-loop μ-loop
-shared-slice-read-word c = rw (c .before .wide .ensures .0, c .before .before .kid .ensures) (c .before .before .before .before .before .before .before .before .pre .1 (c .before .before .before .before .loop .i) (omega arith))
+shared-slice-read-word c = rw (c .before .kid .ensures) (c .before .before .before .before .before .before .before .pre .1 (c .before .before .before .loop .i) (omega arith))
 
 word-requires : tie.Need-word-requires Inv-loop μ-loop
 word-requires c κs = search needs
@@ -46,9 +46,9 @@ loop-less c = search needs
 
 loop-again : tie.Need-loop-again Inv-loop μ-loop
 loop-again c =
-    let o = c .before .before .before .before .before .loop in
-    let a = c .before .before .before .before .before .before .before .before .before .args in
-    let e : getD (a .counts .now) (c .before .before .wide .result) 0 ≡ getD (a .counts .now) (kid-at (a .book .now) (a .at) (o .i)) 0 = rw (c .before .before .wide .ensures .0, c .before .before .before .kid .ensures) in
+    let o = c .before .before .before .before .loop in
+    let a = c .before .before .before .before .before .before .before .before .args in
+    let e : getD (a .counts .now) (c .before .before .kid .result) 0 ≡ getD (a .counts .now) (kid-at (a .book .now) (a .at) (o .i)) 0 = rw (c .before .before .kid .ensures) in
     (omega arith, omega (arith, total-more (a .counts .now) (kid-at (a .book .now) (a .at)) (o .i)), omega arith)
 
 returns : tie.Need-returns Inv-loop μ-loop
@@ -65,7 +65,7 @@ watched-up-spec =
     arity-requires
     loop-holds
     kid-requires
-    wide-requires
+    cast-word
     shared-slice-read-word
     word-requires
     add-sum
