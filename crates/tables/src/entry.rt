@@ -41,7 +41,7 @@ fn child_rank(v: Shape, j: usize, s: &[u8; LABELS], sets: &[u32], counts: &[u8])
     requires { ⌜ InPlace (now sets) (now counts) v (now s) × (j < v .arity → Listed (now sets) (now counts) v (suc j) (now s)) ⌝ }
     ensures { λ r. ⌜ ChildRank (now (sets .entry)) (now (counts .entry)) v (now (s .entry)) j r ⌝ }
 {
-    if wide(v.arity) <= j {
+    if v.arity as usize <= j {
         return NONE;
     }
     rank_on(v, j + 1, s, sets, counts)

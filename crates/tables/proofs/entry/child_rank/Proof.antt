@@ -1,4 +1,5 @@
 -- The rank of a child, if there is one. Assumes nothing.
+use mathlib.Core.Path.{refl}
 use Prim.Native.Nat.{_<_}
 use native.Mathlib.Omega.{arith}
 use Rattle.tables.proofs.FillEntry.{no-child, some-child, listed-next}
@@ -6,11 +7,11 @@ use borrow.Author.Needs.{needs}
 use Rattle.tables.proofs.entry.child_rank.Statement.{statement}
 use Rattle.tables.proofs.entry.child_rank.Tie as tie
 
-wide-requires : tie.Need-wide-requires
-wide-requires c κs = search needs
+cast-if1 : tie.Need-cast-if1
+cast-if1 c = search needs
 
 returns : tie.Need-returns
-returns c = no-child _ _ _ (c .before .wide .ensures .0) (omega arith)
+returns c = no-child _ _ _ refl (omega arith)
 
 add-rank-on : tie.Need-add-rank-on
 add-rank-on c = search needs
@@ -18,11 +19,11 @@ add-rank-on c = search needs
 rank-on-requires : tie.Need-rank-on-requires
 rank-on-requires c κs =
     let o = c .before .before .before .before in
-    let l : o .args .j < o .args .v .arity = omega (arith, c .before .wide .ensures .0) in
+    let l : o .args .j < o .args .v .arity = omega arith in
     (o .pre .0, omega arith, listed-next (o .args .sets .now) (o .args .counts .now) (o .args .v) (o .args .s .now) (o .args .j) (o .pre .1 l))
 
 returns-2 : tie.Need-returns-2
-returns-2 c = some-child (omega (arith, c .before .before .wide .ensures .0)) (c .rank-on .ensures)
+returns-2 c = some-child (omega arith) (c .rank-on .ensures)
 
 pub child-rank-spec : {M : Type 1} → statement M
-child-rank-spec = tie.close (tie.spec wide-requires returns add-rank-on rank-on-requires returns-2)
+child-rank-spec = tie.close (tie.spec cast-if1 returns add-rank-on rank-on-requires returns-2)
