@@ -15,7 +15,6 @@ use super::labels::view;
 use super::sets::count;
 use super::sets::rank;
 use super::shape::Shape;
-use super::widen::wide;
 use ranks::ENTRY;
 
 // Which table an entry belongs to.

@@ -24,7 +24,6 @@ use super::sets::MAX_MEMBERS;
 use super::sets::count;
 use super::shape::Shape;
 use super::shape::shape_of;
-use super::widen::wide;
 
 const PRODUCTIONS: usize = book::limits::MAX_PRODUCTIONS as usize;
 
@@ -35,7 +34,7 @@ fn members_on(v: Shape, slot: u8, counts: &[u8]) -> usize
     requires { ⌜ (v .arity ≤ max-kids) × (slot ≤ v .arity) × (kind-of v slot < length (now counts)) ⌝ }
     ensures { λ r. ⌜ r ≡ getD (now (counts .entry)) (kind-of v slot) 0 ⌝ }
 {
-    count(counts, wide(v.kinds[wide(slot)]))
+    count(counts, v.kinds[slot as usize] as usize)
 }
 
 // The state t becomes s with a member tied to a slot.
@@ -43,13 +42,13 @@ fn tie_member(v: Shape, slot: u8, r: usize, sets: &[u32], s: &[u8; LABELS], t: &
     requires { ⌜ Sized v × Ready v (now s) × (slot ≤ v .arity) × (kind-of v slot * max-members + r < length (now sets)) ⌝ }
     ensures { λ _. ⌜ now (t .exit) ≡ tied-once v slot (member (now (sets .entry)) (kind-of v slot) r) (now (s .entry)) ⌝ }
 {
-    let i = wide(slot);
+    let i = slot as usize;
     *t = *s;
     tie(
         t,
         slot,
         v.widths[i],
-        sets[wide(v.kinds[i]) * MAX_MEMBERS + r],
+        sets[v.kinds[i] as usize * MAX_MEMBERS + r],
     );
 }
 

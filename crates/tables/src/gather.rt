@@ -22,7 +22,6 @@ use super::sets::Turn;
 use super::sets::put;
 use super::turns::beyond;
 use super::turns::joined;
-use super::widen::wide;
 
 // A visit of a production: the slots whose codes are chosen, in turn, the last one first, each with its number of settings and of codes; and the
 // slot that the results are seen on, with its number of settings and its kind.

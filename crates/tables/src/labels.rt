@@ -14,7 +14,6 @@ ghost use Rattle.chains.specs.State.{code-pairs, dropped, code-on};
 ghost use Rattle.bookcheck.specs.Search.{Tells};
 ghost use Rattle.ranks.specs.Entries.{labels, none};
 ghost use Rattle.tables.specs.State.{Low, State, Whole, Readable, width-in, own, apart, based, Numbered, Renumbered, tidied};
-use super::widen::wide;
 
 // Occurrence numbers to a slot; slots of a production, the left kind and its children; and its occurrence numbers.
 pub const SETTINGS: usize = book::limits::MAX_SETTINGS as usize;

@@ -10,7 +10,6 @@ ghost use Rattle.tables.specs.Shape.{Opened, Small, Countable, kinds-fro
 use super::shape::Shape;
 use super::shape::shape_of;
 use super::widen::far;
-use super::widen::wide;
 
 // The number of members of a kind.
 fn count(counts: &[u8], kind: usize) -> u64
@@ -26,9 +25,9 @@ fn choices(v: Shape, counts: &[u8]) -> u64
     ensures { λ r. ⌜ (r ≡ choices (now (counts .entry)) (kinds-from v 1)) × (r ≤ max-members ^ max-kids) ⌝ }
 {
     let mut product: u64 = 1;
-    let mut t = wide(v.arity);
+    let mut t = v.arity as usize;
     while 0 < t {
-        product = count(counts, wide(v.kinds[t])) * product;
+        product = count(counts, v.kinds[t] as usize) * product;
         t -= 1;
     }
     product

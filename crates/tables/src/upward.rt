@@ -22,7 +22,6 @@ use super::visit::MARKS;
 use super::visit::looking_at;
 use super::visit::open_turn;
 use super::visit::visit;
-use super::widen::wide;
 use super::widen::word;
 
 // The children in turn, from the first; the results are seen on the left kind.
