@@ -25,19 +25,6 @@ use Rattle.tables.proofs.Shapes.{kinds-step, kinds-none}
 use Rattle.tables.proofs.FillRuns.{Behind, laid-map, laid-count, Blocks, blocks-begun, blocks-room, blocks-next, blocks-done}
 
 -- ── a slot ──
-module _ (v : Shape) {t i k : ℕ} (e : i ≡ t) (e′ : k ≡ kind-of v i) where
-  pub slot-kind : k ≡ kind-of v t
-  slot-kind = e′ ∙ ap (kind-of v) e
-
-  pub slot-count : (c : List ℕ) {n : ℕ} → n ≡ getD c k 0 → n ≡ getD c (kind-of v t) 0
-  slot-count c q = q ∙ ap (λ (k : ℕ). getD c k 0) slot-kind
-
-  pub slot-there : (r : ℕ) {n : ℕ} → kind-of v t * max-members + r < n → k * max-members + r < n
-  slot-there r h = rw slot-kind h
-
-  pub slot-tied : (s x : List ℕ) (r : ℕ) {x′ : List ℕ} → x′ ≡ joins x (code-pairs t (width-of v i) (member s k r)) → x′ ≡ tied-once v t (member s (kind-of v t) r) x
-  slot-tied s x r q = q ∙ ap₂ (λ (w y : ℕ). joins x (code-pairs t w y)) (ap (width-of v) e) (ap (λ (k : ℕ). member s k r) slot-kind)
-
 -- a slot tied leaves a state, with the settings of every slot
 pub tie-ready : {v : Shape} {x : List ℕ} → Sized v → Ready v x → (t y : ℕ) → t ≤ v .arity → Ready v (tied-once v t y x)
 tie-ready {v} {x} z h t y l =
