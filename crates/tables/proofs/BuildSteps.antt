@@ -1,5 +1,5 @@
 -- The build of an accepted book: from what its passes and its tables leave to what the whole does.
-use mathlib.Core.Path.{_≡_, sym, ap, ap₂, _∙_, subst}
+use mathlib.Core.Path.{_≡_, sym, ap, _∙_, subst}
 use mathlib.Core.Bool.{Bool, true, false}
 use mathlib.Core.List.{List, [], _∷_}
 use Prim.Native.Nat.{ℕ, _*_, _≤_, _<_}
@@ -7,14 +7,12 @@ use native.Mathlib.Omega.{arith}
 use lib.ListN.{length}
 use Rattle.lists.specs.Pick.{pick}
 use Rattle.lists.specs.Refusals.{Said, accepted, refused}
-use Rattle.chains.specs.Limits.{max-members}
 use Rattle.chains.specs.Grammar.{Grammar}
 use Rattle.chains.specs.Plausible.{Plausible}
 use Rattle.chains.specs.Feasible.{Feasible}
 use Rattle.book.specs.Format.{kinds, grammar}
 use Rattle.book.specs.Reading.{Index}
 use Rattle.ranks.specs.Entries.{entry-bytes}
-use Rattle.tables.specs.Sets.{Holds}
 use Rattle.tables.specs.Entries.{UpTable, DownTable}
 use Rattle.tables.specs.Promise.{Lent, up-entries, down-entries, Written, zeros, wiped, BuildDue}
 use Rattle.tables.specs.Sweep.{Exact, Outcome}

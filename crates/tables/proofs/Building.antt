@@ -1,16 +1,15 @@
 -- From the check of the book to the end of a build.
-use mathlib.Core.Path.{_≡_, refl, sym, ap, _∙_, subst}
-use mathlib.Core.Logic.{_⊎_, inl, inr}
+use mathlib.Core.Path.{_≡_, refl, ap, _∙_}
+use mathlib.Core.Logic.{inl, inr}
 use mathlib.Core.Bool.{Bool, true, false}
 use mathlib.Core.List.{List, [], _∷_}
-use Prim.Native.Nat.{ℕ, _*_, _≤_, _<_}
+use Prim.Native.Nat.{ℕ, _≤_, _<_}
 use native.Mathlib.Omega.{arith}
 use borrow.Author.Tests.{lt-ltb, le-ltb}
 use lib.Dec.{ltb}
-use lib.ListN.{length, replicate}
-use Rattle.lists.specs.Pick.{pick}
+use lib.ListN.{length}
 use Rattle.lists.specs.Refusals.{Said, accepted, refused, Sooner, First}
-use Rattle.book.specs.Format.{kinds, prods, grammar}
+use Rattle.book.specs.Format.{kinds}
 use Rattle.bookcheck.specs.Refusals as rows
 use Rattle.bookcheck.specs.declared.Checked.{Checked}
 use Rattle.bookcheck.specs.declared.Checked.the-variants as checks

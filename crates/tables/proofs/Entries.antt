@@ -12,7 +12,7 @@ use Rattle.chains.specs.Grammar.{Occ, Grammar}
 use Rattle.chains.proofs.Says.{says-unique}
 use Rattle.ranks.specs.Entries.{choices, up-start, down-start, labels, entry-bytes, none}
 use Rattle.ranks.proofs.Numbers.{up-entry-of, down-entry-of}
-use Rattle.tables.specs.Entries.{Ranked, UpTable, Labelled, DownEntry, DownTable}
+use Rattle.tables.specs.Entries.{Ranked, UpTable, DownEntry, DownTable}
 use Rattle.tables.specs.Promise.{up-entries, down-entries, Written}
 use Rattle.tables.specs.Memory.{Fine}
 use Rattle.tables.proofs.Members.{rank-once}

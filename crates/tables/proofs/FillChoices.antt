@@ -1,5 +1,5 @@
 -- The entries of all choices of members for a production's slots: slot by slot, and of each slot rank by rank.
-use mathlib.Core.Path.{_≡_, sym, ap, ap₂, _∙_, subst}
+use mathlib.Core.Path.{_≡_, sym, ap, _∙_, subst}
 use mathlib.Core.List.{List, [], _∷_}
 use Prim.Native.Nat.{ℕ, suc, _+_, _*_, _≤_, _<_}
 use native.Mathlib.Nat.{one-mul}
@@ -7,8 +7,6 @@ use native.Mathlib.Numerals.{add-one}
 use native.Mathlib.Omega.{arith}
 use lib.ListN.{length, getD}
 use Rattle.chains.specs.Limits.{max-members}
-use Rattle.chains.specs.Labels.{joins}
-use Rattle.chains.specs.State.{code-pairs}
 use Rattle.ranks.specs.Entries.{choices, choice, entry-bytes}
 use Rattle.ranks.proofs.Digits.{digit-once}
 use Rattle.ranks.proofs.Numbers.{choice-below}

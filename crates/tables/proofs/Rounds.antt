@@ -6,7 +6,7 @@ use native.Mathlib.Omega.{arith}
 use lib.ListN.{length}
 use borrow.Author.Count.{below-more}
 use Rattle.chains.specs.Limits.{max-prods}
-use Rattle.tables.specs.Memory.{Fine, Kept, Turned, room}
+use Rattle.tables.specs.Memory.{Fine, Turned}
 use Rattle.tables.specs.Turns.{joined, beyond}
 use Rattle.tables.specs.Sweep.{Attended}
 use Rattle.tables.specs.declared.sets.Turn.{Turn}

@@ -1,9 +1,9 @@
 -- The sets while they are worked out, for any family P of what may stand in them.
 use mathlib.Core.Path.{_≡_}
 use mathlib.Core.Bool.{Bool, true, false}
-use mathlib.Core.List.{List, List·Memᴰ, _++_}
+use mathlib.Core.List.{List, List·Memᴰ}
 use Prim.Native.Nat.{ℕ, suc, _+_, _*_, _≤_, _<_}
-use lib.ListN.{length, getD, set, drop, replicate}
+use lib.ListN.{length, getD, set}
 use Rattle.lists.specs.Part.{place}
 use Rattle.lists.specs.Rising.{Rising, insert}
 use Rattle.lists.specs.Room as lists

@@ -3,13 +3,6 @@ use Rattle.tables.proofs.Building.{built-of-book, built-short, built-re
 use borrow.Author.Needs.{needs}
 use Rattle.tables.proofs.build.Statement.{statement}
 use Rattle.tables.proofs.build.Tie as tie
-use Rattle.tables.proofs.build.Reads as reads
-use Rattle.tables.proofs.build.Lts as lts
-use Rattle.bookcheck.proofs.check_book.Reads as check-book-reads
-use Rattle.tables.proofs.making.refused.Reads as refused-reads
-use Rattle.tables.proofs.making.run.Reads as run-reads
-use Rattle.tables.proofs.widen.span.Reads as span-reads
-use Rattle.tables.proofs.making.too_short.Reads as too-short-reads
 
 check-book-requires : tie.Need-check-book-requires
 check-book-requires c κs = search needs

@@ -5,7 +5,6 @@ use lib.ListN.{length}
 use Rattle.chains.specs.Feasible.{Feasible}
 use Rattle.book.specs.Format.{arity-at, entry, kinds, prods, grammar}
 use Rattle.bookcheck.proofs.Accepted.{arity-read}
-use Rattle.tables.specs.Downward.{DownServed}
 use Rattle.tables.proofs.Rounds.{Round, round-begun, round-next, round-done, round-less}
 use Rattle.tables.proofs.Gathering.{fine-own}
 use Rattle.tables.proofs.DownwardSweep.{DownVisit, down-visit-lasts, down-visited}

@@ -1,6 +1,5 @@
 -- The base grouping of a production. Assumes nothing.
 use borrow.Author.Needs.{needs}
-use mathlib.Core.Path.{_∙_}
 use Prim.Native.Nat.{_-_}
 use Rattle.tables.proofs.StateLoops.{Basing, base-begun, base-low, base-turn, base-done}
 use Rattle.tables.proofs.labels.base.Statement.{statement}

@@ -4,13 +4,6 @@ use Rattle.tables.proofs.BuildSteps.{opened, worked-plausible, plausibl
 use borrow.Author.Needs.{needs}
 use Rattle.tables.proofs.making.work.Statement.{statement}
 use Rattle.tables.proofs.making.work.Tie as tie
-use Rattle.tables.proofs.making.work.Reads as reads
-use Rattle.tables.proofs.making.work.Lts as lts
-use Rattle.book.proofs.index.Reads as index-reads
-use Rattle.tables.proofs.making.refused.Reads as refused-reads
-use Rattle.tables.proofs.making.write_tables.Reads as write-tables-reads
-use Rattle.tables.proofs.downward.downward.Reads as downward-reads
-use Rattle.tables.proofs.upward.upward.Reads as upward-reads
 
 index-requires : tie.Need-index-requires
 index-requires c κs = search needs

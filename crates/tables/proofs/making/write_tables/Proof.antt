@@ -4,14 +4,6 @@ use Rattle.tables.proofs.BuildSteps.{tabled-up, tabled-down, tabled}
 use borrow.Author.Needs.{needs}
 use Rattle.tables.proofs.making.write_tables.Statement.{statement}
 use Rattle.tables.proofs.making.write_tables.Tie as tie
-use Rattle.tables.proofs.making.write_tables.Reads as reads
-use Rattle.tables.proofs.making.write_tables.Lts as lts
-use Rattle.tables.proofs.fill.fill_up.Reads as fill-up-reads
-use Rattle.tables.proofs.widen.long.Reads as long-reads
-use Rattle.tables.proofs.making.refused.Reads as refused-reads
-use Rattle.tables.proofs.fill.fill_down.Reads as fill-down-reads
-use Rattle.tables.proofs.totals.total_down.Reads as total-down-reads
-use Rattle.tables.proofs.totals.total_up.Reads as total-up-reads
 
 total-up-requires : tie.Need-total-up-requires
 total-up-requires c κs = search needs
