@@ -8,6 +8,7 @@ use Rattle.ranks.proofs.Finds.{read-up-once, read-down-once, child-rank-once, l
 use Rattle.tables.specs.declared.Built.{Built}
 use Rattle.tables.specs.declared.Built.the-variants as build
 use Rattle.tables.specs.Answer as build-answer
+use Rattle.slices.proofs.Once.{insert-once, clear-once, wipe-once}
 use Rattle.blocks.proofs.Carried.{occurrences-once}
 use Rattle.blocks.proofs.SetMembers.{block-size-once, first-occurrence-once}
 use Rattle.tables.proofs.Promise.{build-once}
@@ -40,6 +41,9 @@ one-outcome = record {
   export-book = book-word-once;
   export-sheet = sheet-word-once;
   build = λ b m r s m₁ m₂ d e. let (a, l) = build-once b m (build-answer.said r) (build-answer.said s) m₁ m₂ d e in (built-once r s a, l);
+  insert = insert-once;
+  clear = clear-once;
+  wipe = wipe-once;
   occurrences = occurrences-once;
   block-size = block-size-once;
   first-occurrence = first-occurrence-once;

@@ -1,7 +1,9 @@
 -- UNIQUENESS: two outcomes that keep the promise of one public call are the same outcome, answer, place and all lent memory.
 use mathlib.Core.Path.{_≡_}
+use mathlib.Core.Bool.{Bool}
 use mathlib.Core.List.{List}
 use Prim.Native.Nat.{ℕ}
+use Rattle.slices.specs.Slices as slices
 use Rattle.bookcheck.specs.declared.Checked.{Checked}
 use Rattle.bookcheck.specs.Answer as book-answer
 use Rattle.bookcheck.specs.Refusals.{BookDue}
@@ -25,7 +27,7 @@ use Rattle.numbering.specs.Walk.{Tables}
 use Rattle.numbering.specs.Promise as numbering
 
 pub record OneOutcome : Type 0 where
-  -- the book: its check; the places of its entries; of every other accessor (kinds, productions, start, settings, mask, left, arity, kid, kind_in, pairs,
+  -- the book: its check; the places of its entries; of every other accessor (field, kinds, productions, start, first_entry, settings, mask, left, arity, kid, kind_in, pairs,
   -- to, from, next, slot, setting) the answer is the number that its promise names
   pub check-book : (b : List ℕ) (r s : Checked) → BookDue b (book-answer.said r) → BookDue b (book-answer.said s) → r ≡ s
   pub index : (b x y : List ℕ) → Index b x → Index b y → x ≡ y
@@ -38,6 +40,10 @@ pub record OneOutcome : Type 0 where
   -- the build, with six lent slices
   pub build : (b : List ℕ) (m : tables.Lent) (r s : Built) (m₁ m₂ : tables.Lent) → tables.BuildDue b m (build-answer.said r) m₁ → tables.BuildDue b m (build-answer.said s) m₂
       → (r ≡ s) × (m₁ ≡ m₂)
+  -- work on lent slices: a number carried in, places made zero
+  pub insert : (base n x : ℕ) (s s₁ s₂ : List ℕ) (r₁ r₂ : Bool) → slices.Taken base n x s s₁ r₁ → slices.Taken base n x s s₂ r₂ → (r₁ ≡ r₂) × (s₁ ≡ s₂)
+  pub clear : (n : ℕ) (s s₁ s₂ : List ℕ) → slices.Cleared n s s₁ → slices.Cleared n s s₂ → s₁ ≡ s₂
+  pub wipe : (all : Bool) (s s₁ s₂ : List ℕ) → slices.Wiped all s s₁ → slices.Wiped all s s₂ → s₁ ≡ s₂
   -- blocks of a down entry
   pub occurrences : (down : List ℕ) (e x s t : ℕ) → Block down e x s → Block down e x t → s ≡ t
   pub block-size : (set n m : ℕ) → Size set n → Size set m → n ≡ m
