@@ -48,11 +48,12 @@ unfoldable pub child-at : List ℕ → ℕ → ℕ → ℕ
 child-at ends i zero = suc i
 child-at ends i (suc j) = getD ends (child-at ends i j) 0
 
--- the first k children of the node i stand within the list
+-- the first k children of the node i stand within the list, and so does the last one's end
 pub record Children (ends : List ℕ) (i k : ℕ) : Type 0 where
   pub few : k ≤ max-kids
   pub inside : i < max-nodes
   pub each : (j : ℕ) → j < k → child-at ends i j < max-nodes
+  pub last : child-at ends i k ≤ max-nodes
 
 -- rs has the ranks of the first k children, then 0; end is where the last of them ends
 pub record Kindred (plausible ends : List ℕ) (i k : ℕ) (rs : List ℕ) (end : ℕ) : Type 0 where

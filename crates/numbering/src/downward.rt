@@ -11,10 +11,8 @@ use super::kin::kid_counts;
 use super::kin::kin_of;
 use super::limits::NODES;
 use super::limits::PRODUCTIONS;
-use super::span;
 use super::starts::down_starts;
 use super::upward::Reads;
-use super::wide;
 use ranks::DownRead;
 use ranks::Feasible;
 
@@ -45,13 +43,13 @@ fn hand_down(
     let mut child = i + 1;
     let mut j = 0;
     while j < kids {
-        let rank = ranks::child_rank(down, entry, wide(j));
-        let kind = wide(book::kid(book, at, j));
+        let rank = ranks::child_rank(down, entry, j as usize);
+        let kind = book::kid(book, at, j) as usize;
         if counts[kind] <= rank.0 {
             return false;
         }
         feasible[child] = rank.0;
-        child = span(ends[child]);
+        child = ends[child] as usize;
         j += 1;
     }
     true
@@ -126,7 +124,7 @@ pub fn read_downward(
     let starts = down_starts(book, places, counts, feasible_counts);
     let mut i = 0;
     while i < sheet.len() {
-        let p = wide(sheet[i]);
+        let p = sheet[i] as usize;
         match read_node(
             book,
             places,

@@ -9,7 +9,6 @@ use Rattle.numbering.proofs.kin.kid_counts.Reads as reads
 use Rattle.numbering.proofs.kin.kid_counts.Lts as lts
 use Rattle.book.proofs.arity.Reads as arity-reads
 use Rattle.book.proofs.kid.Reads as kid-reads
-use Rattle.numbering.proofs.wide.Reads as wide-reads
 
 abbrev Inv-loop : tie.InvT-loop
 Inv-loop book places p counts at kids out₀ j₀ out j = Counting book counts p at kids out j
@@ -32,17 +31,17 @@ loop-holds c = counting-none (opened (c .before .before .before .before .pre .0)
 kid-requires : tie.Need-kid-requires Inv-loop μ-loop
 kid-requires c κs = search needs
 
-wide-requires : tie.Need-wide-requires Inv-loop μ-loop
-wide-requires c κs = search needs
+cast-kind : tie.Need-cast-kind Inv-loop μ-loop
+cast-kind c = search needs
 
 shared-slice-read-out : tie.Need-shared-slice-read-out Inv-loop μ-loop
-shared-slice-read-out c = omega (arith, kid-low (c .before .before .before .before .loop .inv .opened) _ (c .before .before .before .loop-test .taken) (c .before .before .kid .ensures))
+shared-slice-read-out c = omega (arith, kid-low (c .before .before .before .loop .inv .opened) _ (c .before .before .loop-test .taken) (c .before .kid .ensures))
 
-wide-requires-2 : tie.Need-wide-requires-2 Inv-loop μ-loop
-wide-requires-2 c κs = search needs
+cast-out : tie.Need-cast-out Inv-loop μ-loop
+cast-out c = search needs
 
 array-write-out : tie.Need-array-write-out Inv-loop μ-loop
-array-write-out c = omega (arith, c .before .before .before .before .before .loop .inv .opened .few)
+array-write-out c = omega (arith, c .before .before .before .loop .inv .opened .few)
 
 add-j : tie.Need-add-j Inv-loop μ-loop
 add-j c = search needs
@@ -51,7 +50,7 @@ loop-less : tie.Need-loop-less Inv-loop μ-loop
 loop-less c = search needs
 
 loop-again : tie.Need-loop-again Inv-loop μ-loop
-loop-again c = rw (c .wide2 .ensures .0) (counting-turn (c .before .before .before .before .before .loop .inv) (c .before .before .before .before .loop-test .taken) (c .before .before .wide .ensures .0 ∙ c .before .before .before .kid .ensures) refl)
+loop-again c = (counting-turn (c .before .before .before .loop .inv) (c .before .before .loop-test .taken) (c .before .kid .ensures) refl)
 
 returns : tie.Need-returns Inv-loop μ-loop
 returns c = counting-done (c .before .loop .inv) (c .loop-test .left)
@@ -67,9 +66,9 @@ kid-counts-spec =
     arity-requires
     loop-holds
     kid-requires
-    wide-requires
+    cast-kind
     shared-slice-read-out
-    wide-requires-2
+    cast-out
     array-write-out
     add-j
     loop-less

@@ -10,7 +10,6 @@ use Rattle.numbering.proofs.numbers.number_slot.Tie as tie
 use Rattle.numbering.proofs.numbers.number_slot.Reads as reads
 use Rattle.numbering.proofs.numbers.number_slot.Lts as lts
 use Rattle.numbering.proofs.numbers.hold.Reads as hold-reads
-use Rattle.numbering.proofs.wide.Reads as wide-reads
 use Rattle.ranks.proofs.label.Reads as label-reads
 
 abbrev Inv-loop : tie.InvT-loop
@@ -34,8 +33,8 @@ label-requires c κs = search needs
 hold-requires : tie.Need-hold-requires Inv-loop μ-loop
 hold-requires c κs = search needs
 
-wide-requires : tie.Need-wide-requires Inv-loop μ-loop
-wide-requires c κs = search needs
+cast-groups : tie.Need-cast-groups Inv-loop μ-loop
+cast-groups c = search needs
 
 mul-groups : tie.Need-mul-groups Inv-loop μ-loop
 mul-groups c = search needs
@@ -62,7 +61,7 @@ loop-less : tie.Need-loop-less Inv-loop μ-loop
 loop-less c = search needs
 
 loop-again : tie.Need-loop-again Inv-loop μ-loop
-loop-again c = (slot-turn (c .before .before .before .before .before .before .before .loop .inv .0) (omega arith) (omega arith) (omega arith) (c .before .before .before .before .before .label .ensures) (c .before .before .hold .ensures .0) (c .before .before .hold .ensures .1) (rw (c .before .wide .ensures .0)), omega arith, c .before .before .hold .ensures .0 .stamps-kept ∙ c .before .before .before .before .before .before .before .loop .inv .2, c .before .before .hold .ensures .0 .numbers-kept ∙ c .before .before .before .before .before .before .before .loop .inv .3)
+loop-again c = (slot-turn (c .before .before .before .before .before .before .loop .inv .0) (omega arith) (omega arith) (omega arith) (c .before .before .before .before .label .ensures) (c .before .hold .ensures .0) (c .before .hold .ensures .1) refl, omega arith, c .before .hold .ensures .0 .stamps-kept ∙ c .before .before .before .before .before .before .loop .inv .2, c .before .hold .ensures .0 .numbers-kept ∙ c .before .before .before .before .before .before .loop .inv .3)
 
 same-length : tie.Need-same-length Inv-loop μ-loop
 same-length c = search needs
@@ -81,7 +80,7 @@ number-slot-spec =
     add-label
     label-requires
     hold-requires
-    wide-requires
+    cast-groups
     mul-groups
     element-copy-out-groups
     add-groups

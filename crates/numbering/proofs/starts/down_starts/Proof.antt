@@ -12,10 +12,7 @@ use Rattle.numbering.proofs.starts.down_starts.Lts as lts
 use Rattle.book.proofs.left.Reads as left-reads
 use Rattle.book.proofs.productions.Reads as productions-reads
 use Rattle.numbering.proofs.kin.kid_counts.Reads as kid-counts-reads
-use Rattle.numbering.proofs.long.Reads as long-reads
-use Rattle.numbering.proofs.span.Reads as span-reads
 use Rattle.numbering.proofs.starts.choices_of.Reads as choices-of-reads
-use Rattle.numbering.proofs.wide.Reads as wide-reads
 
 abbrev Inv-loop : tie.InvT-loop
 Inv-loop book places counts feasible-counts n starts₀ next₀ p₀ starts next p = DownSumming book counts feasible-counts n starts next p
@@ -26,11 +23,11 @@ abbrev μ-loop : tie.MeasureT-loop
 productions-requires : tie.Need-productions-requires Inv-loop μ-loop
 productions-requires c κs = search needs
 
-span-requires : tie.Need-span-requires Inv-loop μ-loop
-span-requires c κs = search needs
+cast-n : tie.Need-cast-n Inv-loop μ-loop
+cast-n c = search needs
 
 loop-holds : tie.Need-loop-holds Inv-loop μ-loop
-loop-holds c = down-summing-none (c .span .ensures .0 ∙ c .before .productions .ensures ∙ told-prods (c .before .before .before .before .before .pre .0 .accepted)) (c .before .before .before .before .before .pre .0 .accepted .few-prods)
+loop-holds c = down-summing-none (c .productions .ensures ∙ told-prods (c .before .before .before .before .pre .0 .accepted)) (c .before .before .before .before .pre .0 .accepted .few-prods)
 
 mul-starts : tie.Need-mul-starts Inv-loop μ-loop
 mul-starts c = omega (arith, c .before .loop .inv .sums .few)
@@ -47,26 +44,26 @@ element-copy-out-left c = omega (arith, c .before .loop .inv .sums .few)
 left-requires : tie.Need-left-requires Inv-loop μ-loop
 left-requires c κs = search needs
 
-wide-requires : tie.Need-wide-requires Inv-loop μ-loop
-wide-requires c κs = search needs
+cast-left : tie.Need-cast-left Inv-loop μ-loop
+cast-left c = search needs
 
-shared-slice-read-long : tie.Need-shared-slice-read-long Inv-loop μ-loop
-shared-slice-read-long c = omega (arith, left-low (c .before .before .before .before .before .before .before .before .before .before .before .pre .0) (omega (arith, c .before .before .before .before .before .loop .inv .all)) refl (c .before .before .left .ensures), c .before .before .before .before .before .before .before .before .before .before .before .pre .2)
+shared-slice-read-next : tie.Need-shared-slice-read-next Inv-loop μ-loop
+shared-slice-read-next c = omega (arith, left-low (c .before .before .before .before .before .before .before .before .before .pre .0) (omega (arith, c .before .before .before .before .loop .inv .all)) refl (c .before .left .ensures), c .before .before .before .before .before .before .before .before .before .pre .2)
 
-long-requires : tie.Need-long-requires Inv-loop μ-loop
-long-requires c κs = search needs
+cast-next : tie.Need-cast-next Inv-loop μ-loop
+cast-next c = omega (arith, c .shared-slice-known4 .given (c .before .left .result))
 
 kid-counts-requires : tie.Need-kid-counts-requires Inv-loop μ-loop
-kid-counts-requires c κs = (c .before .before .before .before .before .before .before .before .before .before .before .before .pre .0, omega (arith, c .before .before .before .before .before .before .loop .inv .all), c .before .before .before .before .before .before .before .before .before .before .before .before .pre .1)
+kid-counts-requires c κs = (c .before .before .before .before .before .before .before .before .before .pre .0, omega (arith, c .before .before .before .before .loop .inv .all), c .before .before .before .before .before .before .before .before .before .pre .1)
 
 choices-of-requires : tie.Need-choices-of-requires Inv-loop μ-loop
 choices-of-requires c κs = search needs
 
 mul-next : tie.Need-mul-next Inv-loop μ-loop
-mul-next c = omega (arith, product-small (c .before .before .long .ensures .1) (c .choices-of .ensures .1))
+mul-next c = omega (arith, product-small (c .before .before .shared-slice-known4 .given (c .before .before .before .left .result)) (c .choices-of .ensures .1))
 
 add-next : tie.Need-add-next Inv-loop μ-loop
-add-next c = omega (arith, c .before .before .before .before .before .before .before .before .loop .inv .sums .small, c .before .before .before .before .before .before .before .before .loop .inv .sums .few, product-small (c .before .before .long .ensures .1) (c .choices-of .ensures .1))
+add-next c = omega (arith, c .before .before .before .before .before .before .loop .inv .sums .small, c .before .before .before .before .before .before .loop .inv .sums .few, product-small (c .before .before .shared-slice-known4 .given (c .before .before .before .left .result)) (c .choices-of .ensures .1))
 
 add-p : tie.Need-add-p Inv-loop μ-loop
 add-p c = search needs
@@ -76,8 +73,8 @@ loop-less c = search needs
 
 loop-again : tie.Need-loop-again Inv-loop μ-loop
 loop-again c =
-    down-summing-turn (c .before .before .before .before .before .before .before .before .loop .inv) (c .before .before .before .before .before .before .before .loop-test .taken) (c .before .kid-counts .ensures) (c .choices-of .ensures .0) (c .choices-of .ensures .1)
-    (c .before .before .before .before .wide .ensures .0 ∙ left-is (c .before .before .before .before .before .before .before .before .before .before .before .before .before .before .pre .0) (omega (arith, c .before .before .before .before .before .before .before .before .loop .inv .all)) refl (c .before .before .before .before .before .left .ensures)) (c .before .before .long .ensures .0) (c .before .before .long .ensures .1)
+    down-summing-turn (c .before .before .before .before .before .before .loop .inv) (c .before .before .before .before .before .loop-test .taken) (c .before .kid-counts .ensures) (c .choices-of .ensures .0) (c .choices-of .ensures .1)
+    (left-is (c .before .before .before .before .before .before .before .before .before .before .before .pre .0) (omega (arith, c .before .before .before .before .before .before .loop .inv .all)) refl (c .before .before .before .left .ensures)) refl (c .before .before .shared-slice-known4 .given (c .before .before .before .left .result))
 
 returns : tie.Need-returns Inv-loop μ-loop
 returns c = down-summing-done (c .before .loop .inv) (c .loop-test .left)
@@ -89,16 +86,16 @@ down-starts-spec =
     Inv-loop
     μ-loop
     productions-requires
-    span-requires
+    cast-n
     loop-holds
     mul-starts
     array-write-starts
     mul-left
     element-copy-out-left
     left-requires
-    wide-requires
-    shared-slice-read-long
-    long-requires
+    cast-left
+    shared-slice-read-next
+    cast-next
     kid-counts-requires
     choices-of-requires
     mul-next

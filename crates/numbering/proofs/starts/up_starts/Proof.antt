@@ -10,7 +10,6 @@ use Rattle.numbering.proofs.starts.up_starts.Reads as reads
 use Rattle.numbering.proofs.starts.up_starts.Lts as lts
 use Rattle.book.proofs.productions.Reads as productions-reads
 use Rattle.numbering.proofs.kin.kid_counts.Reads as kid-counts-reads
-use Rattle.numbering.proofs.span.Reads as span-reads
 use Rattle.numbering.proofs.starts.choices_of.Reads as choices-of-reads
 
 abbrev Inv-loop : tie.InvT-loop
@@ -22,11 +21,11 @@ abbrev μ-loop : tie.MeasureT-loop
 productions-requires : tie.Need-productions-requires Inv-loop μ-loop
 productions-requires c κs = search needs
 
-span-requires : tie.Need-span-requires Inv-loop μ-loop
-span-requires c κs = search needs
+cast-n : tie.Need-cast-n Inv-loop μ-loop
+cast-n c = search needs
 
 loop-holds : tie.Need-loop-holds Inv-loop μ-loop
-loop-holds c = up-summing-none (c .span .ensures .0 ∙ c .before .productions .ensures ∙ told-prods (c .before .before .before .before .pre .0 .accepted)) (c .before .before .before .before .pre .0 .accepted .few-prods)
+loop-holds c = up-summing-none (c .productions .ensures ∙ told-prods (c .before .before .before .pre .0 .accepted)) (c .before .before .before .pre .0 .accepted .few-prods)
 
 mul-starts : tie.Need-mul-starts Inv-loop μ-loop
 mul-starts c = omega (arith, c .before .loop .inv .sums .few)
@@ -35,7 +34,7 @@ array-write-starts : tie.Need-array-write-starts Inv-loop μ-loop
 array-write-starts c = omega (arith, c .before .loop .inv .sums .few)
 
 kid-counts-requires : tie.Need-kid-counts-requires Inv-loop μ-loop
-kid-counts-requires c κs = (c .before .before .before .before .before .before .pre .0, omega (arith, c .before .loop .inv .all), c .before .before .before .before .before .before .pre .1)
+kid-counts-requires c κs = (c .before .before .before .before .before .pre .0, omega (arith, c .before .loop .inv .all), c .before .before .before .before .before .pre .1)
 
 choices-of-requires : tie.Need-choices-of-requires Inv-loop μ-loop
 choices-of-requires c κs = search needs
@@ -62,7 +61,7 @@ up-starts-spec =
     Inv-loop
     μ-loop
     productions-requires
-    span-requires
+    cast-n
     loop-holds
     mul-starts
     array-write-starts

@@ -8,7 +8,7 @@ use Rattle.numbering.proofs.telling.tell.Statement.{statement}
 use Rattle.numbering.proofs.telling.tell.Tie as tie
 use Rattle.numbering.proofs.telling.tell.Reads as reads
 use Rattle.numbering.proofs.telling.tell.Lts as lts
-use Rattle.numbering.proofs.long.Reads as long-reads
+use Rattle.numbering.proofs.telling.long.Reads as long-reads
 
 abbrev Inv-loop : tie.InvT-loop
 Inv-loop n plausible feasible entries nodes₀ i₀ nodes i = Telling plausible feasible entries nodes₀ n nodes i
@@ -77,7 +77,7 @@ loop-less : tie.Need-loop-less Inv-loop μ-loop
 loop-less c = search needs
 
 loop-again : tie.Need-loop-again Inv-loop μ-loop
-loop-again c = telling-turn (c .before .before .before .before .before .before .loop .inv) (c .before .before .before .before .before .loop-test .taken) (c .before .before .before .long .ensures .0) (c .before .long2 .ensures .0) refl
+loop-again c = telling-turn (c .before .before .before .before .before .before .loop .inv) (c .before .before .before .before .before .loop-test .taken) (c .before .before .before .long .ensures) (c .before .long2 .ensures) refl
 
 same-length : tie.Need-same-length Inv-loop μ-loop
 same-length c = search needs
