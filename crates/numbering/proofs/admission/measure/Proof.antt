@@ -9,13 +9,13 @@ use Rattle.numbering.proofs.admission.measure.Lts as lts
 use Rattle.numbering.proofs.admission.too_short.Reads as too-short-reads
 
 too-short-requires : tie.Need-too-short-requires
-too-short-requires c κs = search needs
+too-short-requires c κs = tt
 
 returns : tie.Need-returns
 returns c = measured-short (c .before .before .before .before .pre) _ _ _ _ (c .before .too-short .ensures) (c .if1 .taken)
 
 mul-if2 : tie.Need-mul-if2
-mul-if2 c = search needs
+mul-if2 c = omega arith
 
 returns-2 : tie.Need-returns-2
 returns-2 c = measured-nodes (c .before .before .before .before .before .pre) _ _ _ _ (c .before .before .too-short .ensures) (c .before .if1 .left) (omega (arith, c .if2 .taken))

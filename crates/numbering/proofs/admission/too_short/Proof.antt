@@ -1,6 +1,7 @@
 -- Either slice shorter than the number of kinds.
 use mathlib.Core.Path.{_∙_}
 use Rattle.numbering.proofs.Measured.{short-plausible, short-feasible}
+use native.Mathlib.Omega.{arith}
 use borrow.Author.Needs.{needs}
 use Rattle.numbering.proofs.admission.too_short.Statement.{statement}
 use Rattle.numbering.proofs.admission.too_short.Tie as tie
@@ -9,10 +10,10 @@ use Rattle.numbering.proofs.admission.too_short.Lts as lts
 use Rattle.book.proofs.kinds.Reads as kinds-reads
 
 kinds-requires : tie.Need-kinds-requires
-kinds-requires c κs = search needs
+kinds-requires c κs = tt
 
 cast-n : tie.Need-cast-n
-cast-n c = search needs
+cast-n c = omega arith
 
 returns : tie.Need-returns
 returns c = short-plausible (c .before .before .before .args .book .now) (c .before .kinds .ensures) (c .if1 .taken)

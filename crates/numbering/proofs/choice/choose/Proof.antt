@@ -4,6 +4,7 @@ use mathlib.Core.List.{[]}
 use lib.ListN.{length-set}
 use Rattle.bookcheck.proofs.Accepted.{told-start}
 use Rattle.numbering.proofs.Choosing.{start-inside, choice-up, choice-ended, choice-root, choice-down}
+use native.Mathlib.Omega.{arith}
 use borrow.Author.Needs.{needs}
 use Rattle.numbering.proofs.choice.choose.Statement.{statement}
 use Rattle.numbering.proofs.choice.choose.Tie as tie
@@ -24,16 +25,16 @@ enum-told : tie.Need-enum-told
 enum-told c = search needs
 
 element-copy-out-if1 : tie.Need-element-copy-out-if1
-element-copy-out-if1 c = search needs
+element-copy-out-if1 c = omega arith
 
 started-requires : tie.Need-started-requires
-started-requires c κs = search needs
+started-requires c κs = tt
 
 start-requires : tie.Need-start-requires
-start-requires c κs = search needs
+start-requires c κs = tt
 
 cast-start : tie.Need-cast-start
-cast-start c = search needs
+cast-start c = omega arith
 
 shared-slice-read-if1 : tie.Need-shared-slice-read-if1
 shared-slice-read-if1 c = start-inside (c .before .before .before .before .before .before .before .before .before .before .before .before .before .before .before .args .feasible-counts .now) (c .before .before .before .before .before .before .before .before .before .before .before .before .before .before .before .pre .0 .accepted) (c .before .before .before .before .before .before .before .before .before .before .before .before .before .before .before .pre .3) (c .before .start .ensures ∙ told-start (c .before .before .before .before .before .before .before .before .before .before .before .before .before .before .before .pre .0 .accepted))
@@ -42,7 +43,7 @@ returns : tie.Need-returns
 returns c = choice-root _ _ (c .before .before .before .before .before .before .before .before .read-upward .ensures) (c .before .before .before .before .before .before .enum-told .given .1) (c .before .before .before .before .before .before .before .before .before .before .before .before .before .before .before .before .before .pre .6) (c .before .before .before .before .before .before .before .before .before .before .before .before .before .before .before .before .before .pre .7) (c .before .before .before .start .ensures ∙ told-start (c .before .before .before .before .before .before .before .before .before .before .before .before .before .before .before .before .before .pre .0 .accepted)) (c .before .before .before .before .started .ensures) (c .if1 .taken)
 
 element-write-feasible : tie.Need-element-write-feasible
-element-write-feasible c = search needs
+element-write-feasible c = omega arith
 
 read-downward-requires : tie.Need-read-downward-requires
 read-downward-requires c κs = (

@@ -12,10 +12,10 @@ use Rattle.book.proofs.kinds.Reads as kinds-reads
 use Rattle.numbering.proofs.counts.over.Reads as over-reads
 
 kinds-requires : tie.Need-kinds-requires
-kinds-requires c κs = search needs
+kinds-requires c κs = tt
 
 cast-n : tie.Need-cast-n
-cast-n c = search needs
+cast-n c = omega arith
 
 over-requires : tie.Need-over-requires
 over-requires c κs = omega (arith, c .kinds .ensures, told-kinds (c .before .before .before .before .pre .0), c .before .before .before .before .pre .1)

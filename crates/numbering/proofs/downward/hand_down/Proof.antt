@@ -19,31 +19,31 @@ abbrev μ-loop : tie.MeasureT-loop
 μ-loop book places p counts down entry ends i feasible₀ at kids child₀ j₀ feasible child j = kids - j
 
 mul-at : tie.Need-mul-at Inv-loop μ-loop
-mul-at c = search needs
+mul-at c = omega arith
 
 element-copy-out-at : tie.Need-element-copy-out-at Inv-loop μ-loop
 element-copy-out-at c = omega (arith, c .before .before .before .pre .0 .accepted .few-prods)
 
 arity-requires : tie.Need-arity-requires Inv-loop μ-loop
-arity-requires c κs = search needs
+arity-requires c κs = tt
 
 add-child : tie.Need-add-child Inv-loop μ-loop
-add-child c = search needs
+add-child c = omega arith
 
 loop-holds : tie.Need-loop-holds Inv-loop μ-loop
 loop-holds c = handing-none _ (opened (c .before .before .before .before .before .pre .0) (c .before .before .before .before .before .pre .1) refl (c .arity .ensures)) (c .before .before .before .before .before .pre .5) (c .before .before .before .before .before .pre .3)
 
 cast-child-rank : tie.Need-cast-child-rank Inv-loop μ-loop
-cast-child-rank c = search needs
+cast-child-rank c = omega arith
 
 child-rank-requires : tie.Need-child-rank-requires Inv-loop μ-loop
-child-rank-requires c κs = search needs
+child-rank-requires c κs = tt
 
 kid-requires : tie.Need-kid-requires Inv-loop μ-loop
-kid-requires c κs = search needs
+kid-requires c κs = tt
 
 cast-kind : tie.Need-cast-kind Inv-loop μ-loop
-cast-kind c = search needs
+cast-kind c = omega arith
 
 shared-slice-read-if1 : tie.Need-shared-slice-read-if1 Inv-loop μ-loop
 shared-slice-read-if1 c = omega (arith, kid-low (c .before .before .before .before .loop .inv .opened) _ (c .before .before .before .loop-test .taken) (c .before .kid .ensures), c .before .before .before .before .before .before .before .before .before .before .pre .2)
@@ -64,10 +64,10 @@ cast-child : tie.Need-cast-child Inv-loop μ-loop
 cast-child c = omega (arith, end-low (c .before .before .before .before .before .before .before .loop .inv .children) (c .before .before .before .before .before .before .loop-test .taken) (c .before .before .before .before .before .before .before .loop .inv .stands))
 
 add-j : tie.Need-add-j Inv-loop μ-loop
-add-j c = search needs
+add-j c = omega arith
 
 loop-less : tie.Need-loop-less Inv-loop μ-loop
-loop-less c = search needs
+loop-less c = omega arith
 
 loop-again : tie.Need-loop-again Inv-loop μ-loop
 loop-again c = handing-turn (c .before .before .before .before .before .before .before .loop .inv) (c .before .before .before .before .before .before .loop-test .taken) (c .before .before .before .before .kid .ensures) (c .before .before .before .before .before .child-rank .ensures) (omega arith) refl

@@ -25,7 +25,7 @@ loop-holds : tie.Need-loop-holds Inv-loop μ-loop
 loop-holds c = going-none (c .before .before .before .before .before .before .pre .1 .few) (c .before .before .before .before .before .before .pre .6) (c .before .before .before .before .before .before .pre .7)
 
 shared-slice-read-p : tie.Need-shared-slice-read-p Inv-loop μ-loop
-shared-slice-read-p c = search needs
+shared-slice-read-p c = omega arith
 
 cast-p : tie.Need-cast-p Inv-loop μ-loop
 cast-p c = omega (arith, c .shared-slice-known6 .given (c .before .before .loop .i))
@@ -70,10 +70,10 @@ element-write-entries : tie.Need-element-write-entries Inv-loop μ-loop
 element-write-entries c = omega (arith, c .before .before .before .before .before .before .before .loop .inv .few)
 
 add-i : tie.Need-add-i Inv-loop μ-loop
-add-i c = search needs
+add-i c = omega arith
 
 loop-less : tie.Need-loop-less Inv-loop μ-loop
-loop-less c = search needs
+loop-less c = omega arith
 
 loop-again : tie.Need-loop-again Inv-loop μ-loop
 loop-again c = going-turn (c .before .before .before .before .before .before .before .loop .inv) (c .before .before .before .before .before .before .loop-test .taken) refl (c .before .before .before .read-node .ensures) (c .before .entry .given .1) refl

@@ -15,13 +15,13 @@ use Rattle.numbering.proofs.kin.kin_of.Reads as kin-of-reads
 use Rattle.ranks.proofs.read_down.Reads as read-down-reads
 
 mul-at : tie.Need-mul-at
-mul-at c = search needs
+mul-at c = omega arith
 
 element-copy-out-at : tie.Need-element-copy-out-at
 element-copy-out-at c = omega (arith, c .before .before .before .before .before .pre .0 .accepted .few-prods)
 
 arity-requires : tie.Need-arity-requires
-arity-requires c κs = search needs
+arity-requires c κs = tt
 
 kin-of-requires : tie.Need-kin-of-requires
 kin-of-requires c κs = (c .before .before .before .before .before .before .before .pre .5, c .before .before .before .before .before .before .before .pre .6, rw ((opened (c .before .before .before .before .before .before .before .pre .0) (c .before .before .before .before .before .before .before .pre .1) refl (c .arity .ensures)) .count) (c .before .before .before .before .before .before .before .pre .8))
@@ -33,7 +33,7 @@ kid-counts-requires : tie.Need-kid-counts-requires
 kid-counts-requires c κs = search needs
 
 read-down-requires : tie.Need-read-down-requires
-read-down-requires c κs = search needs
+read-down-requires c κs = tt
 
 enum-told : tie.Need-enum-told
 enum-told c = search needs

@@ -17,37 +17,37 @@ abbrev μ-loop : tie.MeasureT-loop
 μ-loop book places p counts at kids out₀ j₀ out j = kids - j
 
 mul-at : tie.Need-mul-at Inv-loop μ-loop
-mul-at c = search needs
+mul-at c = omega arith
 
 element-copy-out-at : tie.Need-element-copy-out-at Inv-loop μ-loop
 element-copy-out-at c = omega (arith, c .before .before .pre .0 .accepted .few-prods)
 
 arity-requires : tie.Need-arity-requires Inv-loop μ-loop
-arity-requires c κs = search needs
+arity-requires c κs = tt
 
 loop-holds : tie.Need-loop-holds Inv-loop μ-loop
 loop-holds c = counting-none (opened (c .before .before .before .before .pre .0) (c .before .before .before .before .pre .1) refl (c .arity .ensures)) (c .before .before .before .before .pre .2)
 
 kid-requires : tie.Need-kid-requires Inv-loop μ-loop
-kid-requires c κs = search needs
+kid-requires c κs = tt
 
 cast-kind : tie.Need-cast-kind Inv-loop μ-loop
-cast-kind c = search needs
+cast-kind c = omega arith
 
 shared-slice-read-out : tie.Need-shared-slice-read-out Inv-loop μ-loop
 shared-slice-read-out c = omega (arith, kid-low (c .before .before .before .loop .inv .opened) _ (c .before .before .loop-test .taken) (c .before .kid .ensures))
 
 cast-out : tie.Need-cast-out Inv-loop μ-loop
-cast-out c = search needs
+cast-out c = omega arith
 
 array-write-out : tie.Need-array-write-out Inv-loop μ-loop
 array-write-out c = omega (arith, c .before .before .before .loop .inv .opened .few)
 
 add-j : tie.Need-add-j Inv-loop μ-loop
-add-j c = search needs
+add-j c = omega arith
 
 loop-less : tie.Need-loop-less Inv-loop μ-loop
-loop-less c = search needs
+loop-less c = omega arith
 
 loop-again : tie.Need-loop-again Inv-loop μ-loop
 loop-again c = (counting-turn (c .before .before .before .loop .inv) (c .before .before .loop-test .taken) (c .before .kid .ensures) refl)

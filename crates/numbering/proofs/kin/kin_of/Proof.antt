@@ -24,7 +24,7 @@ element-copy-out-t12 : tie.Need-element-copy-out-t12 Inv-loop μ-loop
 element-copy-out-t12 c = omega (arith, ranking-inside (c .before .loop .inv) (c .loop-test .taken))
 
 cast-ranks : tie.Need-cast-ranks Inv-loop μ-loop
-cast-ranks c = search needs
+cast-ranks c = omega arith
 
 array-set-from-ranks : tie.Need-array-set-from-ranks Inv-loop μ-loop
 array-set-from-ranks c = omega (arith, c .before .before .loop .inv .children .few)
@@ -39,10 +39,10 @@ cast-at : tie.Need-cast-at Inv-loop μ-loop
 cast-at c = omega (arith, end-low (c .before .before .before .loop .inv .children) (c .before .before .loop-test .taken) (c .before .before .before .loop .inv .stands))
 
 add-j : tie.Need-add-j Inv-loop μ-loop
-add-j c = search needs
+add-j c = omega arith
 
 loop-less : tie.Need-loop-less Inv-loop μ-loop
-loop-less c = search needs
+loop-less c = omega arith
 
 loop-again : tie.Need-loop-again Inv-loop μ-loop
 loop-again c = (ranking-turn (c .before .before .before .loop .inv) (c .before .before .loop-test .taken) refl refl)

@@ -23,28 +23,28 @@ loop-holds : tie.Need-loop-holds Inv-loop μ-loop
 loop-holds c = placing-none _ _ (c .before .before .pre .1 .few)
 
 mul-firsts : tie.Need-mul-firsts Inv-loop μ-loop
-mul-firsts c = search needs
+mul-firsts c = omega arith
 
 array-write-firsts : tie.Need-array-write-firsts Inv-loop μ-loop
 array-write-firsts c = omega (arith, c .before .loop .inv .few)
 
 shared-slice-read-own-width : tie.Need-shared-slice-read-own-width Inv-loop μ-loop
-shared-slice-read-own-width c = search needs
+shared-slice-read-own-width c = omega arith
 
 own-width-requires : tie.Need-own-width-requires Inv-loop μ-loop
 own-width-requires c κs = (c .before .before .before .before .before .pre .0, node-at (c .before .before .before .before .before .pre .1 .tree-of) (c .before .before .loop .i) (c .before .loop-test .taken) .known)
 
 cast-next : tie.Need-cast-next Inv-loop μ-loop
-cast-next c = search needs
+cast-next c = omega arith
 
 add-next : tie.Need-add-next Inv-loop μ-loop
 add-next c = omega (arith, c .own-width .ensures .1, c .before .before .before .loop .inv .small, c .before .before .before .loop .inv .few)
 
 add-i : tie.Need-add-i Inv-loop μ-loop
-add-i c = search needs
+add-i c = omega arith
 
 loop-less : tie.Need-loop-less Inv-loop μ-loop
-loop-less c = search needs
+loop-less c = omega arith
 
 loop-again : tie.Need-loop-again Inv-loop μ-loop
 loop-again c = placing-turn (c .before .before .before .loop .inv) (c .before .before .loop-test .taken) (c .own-width .ensures .0) (c .own-width .ensures .1)

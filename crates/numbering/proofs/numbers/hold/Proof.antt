@@ -9,25 +9,25 @@ use Rattle.numbering.proofs.numbers.hold.Reads as reads
 use Rattle.numbering.proofs.numbers.hold.Lts as lts
 
 mul-if1 : tie.Need-mul-if1
-mul-if1 c = search needs
+mul-if1 c = omega arith
 
 element-copy-out-if1 : tie.Need-element-copy-out-if1
-element-copy-out-if1 c = search needs
+element-copy-out-if1 c = omega arith
 
 returns : tie.Need-returns
 returns c = (held-again _ (omega (arith, c .before .before .fits .label)) (c .if1 .taken), omega arith)
 
 mul-stamps : tie.Need-mul-stamps
-mul-stamps c = search needs
+mul-stamps c = omega arith
 
 element-write-stamps : tie.Need-element-write-stamps
-element-write-stamps c = search needs
+element-write-stamps c = omega arith
 
 mul-held : tie.Need-mul-held
-mul-held c = search needs
+mul-held c = omega arith
 
 element-write-held : tie.Need-element-write-held
-element-write-held c = search needs
+element-write-held c = omega arith
 
 returns-2 : tie.Need-returns-2
 returns-2 c = (held-first _ (omega (arith, c .before .before .fits .label)) (c .if1 .left), omega arith)

@@ -22,25 +22,25 @@ loop-holds : tie.Need-loop-holds Inv-loop μ-loop
 loop-holds c = (own-none _ _ _ _ _ _ _, omega arith, search needs, search needs)
 
 label-requires : tie.Need-label-requires Inv-loop μ-loop
-label-requires c κs = search needs
+label-requires c κs = tt
 
 add-hold : tie.Need-add-hold Inv-loop μ-loop
-add-hold c = search needs
+add-hold c = omega arith
 
 mul-hold : tie.Need-mul-hold Inv-loop μ-loop
-mul-hold c = search needs
+mul-hold c = omega arith
 
 shared-slice-read-hold : tie.Need-shared-slice-read-hold Inv-loop μ-loop
-shared-slice-read-hold c = search needs
+shared-slice-read-hold c = omega arith
 
 hold-requires : tie.Need-hold-requires Inv-loop μ-loop
 hold-requires c κs = search needs
 
 add-a : tie.Need-add-a Inv-loop μ-loop
-add-a c = search needs
+add-a c = omega arith
 
 loop-less : tie.Need-loop-less Inv-loop μ-loop
-loop-less c = search needs
+loop-less c = omega arith
 
 loop-again : tie.Need-loop-again Inv-loop μ-loop
 loop-again c = (own-turn (c .before .before .before .before .before .before .loop .inv .0) (omega arith) (omega arith) (c .before .before .before .before .label .ensures) refl (c .hold .ensures .0), omega arith, c .hold .ensures .0 .stamps-kept ∙ c .before .before .before .before .before .before .loop .inv .2, c .hold .ensures .0 .numbers-kept ∙ c .before .before .before .before .before .before .loop .inv .3)

@@ -27,7 +27,7 @@ first-places-requires : tie.Need-first-places-requires Inv-loop μ-loop
 first-places-requires c κs = search needs
 
 element-copy-out-number-slot : tie.Need-element-copy-out-number-slot Inv-loop μ-loop
-element-copy-out-number-slot c = search needs
+element-copy-out-number-slot c = omega arith
 
 shared-slice-read-own-width : tie.Need-shared-slice-read-own-width Inv-loop μ-loop
 shared-slice-read-own-width c = omega (arith, c .before .before .before .before .before .before .before .pre .1 .some)
@@ -71,10 +71,10 @@ number-node-requires c κs =
     )
 
 add-i : tie.Need-add-i Inv-loop μ-loop
-add-i c = search needs
+add-i c = omega arith
 
 loop-less : tie.Need-loop-less Inv-loop μ-loop
-loop-less c = search needs
+loop-less c = omega arith
 
 loop-again : tie.Need-loop-again Inv-loop μ-loop
 loop-again c = (walking-turn (c .before .before .before .before .before .before .before .before .before .loop .inv .0) (c .before .before .before .before .before .before .before .before .loop-test .taken) refl (c .before .before .number-node .ensures), c .before .before .before .before .before .before .before .before .before .loop .inv .1)

@@ -21,28 +21,28 @@ abbrev μ-loop : tie.MeasureT-loop
 μ-loop book places sheet p down entry ends firsts i stamp first stamps₀ held₀ groups₀ place kids next₀ child₀ j₀ stamps held groups next child j = kids - j
 
 mul-place : tie.Need-mul-place Inv-loop μ-loop
-mul-place c = search needs
+mul-place c = omega arith
 
 element-copy-out-place : tie.Need-element-copy-out-place Inv-loop μ-loop
 element-copy-out-place c = omega (arith, c .before .before .before .before .pre .0 .accepted .few-prods)
 
 arity-requires : tie.Need-arity-requires Inv-loop μ-loop
-arity-requires c κs = search needs
+arity-requires c κs = tt
 
 add-child : tie.Need-add-child Inv-loop μ-loop
-add-child c = search needs
+add-child c = omega arith
 
 loop-holds : tie.Need-loop-holds Inv-loop μ-loop
 loop-holds c = naming-none (opened (c .before .before .before .before .before .before .pre .0) (c .before .before .before .before .before .before .pre .1) refl (c .arity .ensures)) (c .before .before .before .before .before .before .pre .3) (c .before .before .before .before .before .before .pre .4) (c .before .before .before .before .before .before .pre .5) (c .before .before .before .before .before .before .pre .2) (c .before .before .before .before .before .before .pre .6) (c .before .before .before .before .before .before .pre .9) (c .before .before .before .before .before .before .pre .10)
 
 add-number-slot : tie.Need-add-number-slot Inv-loop μ-loop
-add-number-slot c = search needs
+add-number-slot c = omega arith
 
 kid-requires : tie.Need-kid-requires Inv-loop μ-loop
-kid-requires c κs = search needs
+kid-requires c κs = tt
 
 settings-requires : tie.Need-settings-requires Inv-loop μ-loop
-settings-requires c κs = search needs
+settings-requires c κs = tt
 
 mul-number-slot : tie.Need-mul-number-slot Inv-loop μ-loop
 mul-number-slot c = omega (arith, naming-inside (c .before .before .before .loop .inv) (c .before .before .loop-test .taken))
@@ -68,10 +68,10 @@ cast-child : tie.Need-cast-child Inv-loop μ-loop
 cast-child c = omega (arith, end-low (c .before .before .before .before .before .before .before .before .before .before .before .loop .inv .children) (c .before .before .before .before .before .before .before .before .before .before .loop-test .taken) (c .before .before .before .before .before .before .before .before .before .before .before .loop .inv .stands))
 
 add-j : tie.Need-add-j Inv-loop μ-loop
-add-j c = search needs
+add-j c = omega arith
 
 loop-less : tie.Need-loop-less Inv-loop μ-loop
-loop-less c = search needs
+loop-less c = omega arith
 
 loop-again : tie.Need-loop-again Inv-loop μ-loop
 loop-again c = naming-turn (c .before .before .before .before .before .before .before .before .before .before .before .loop .inv) (c .before .before .before .before .before .before .before .before .before .before .loop-test .taken) (c .before .before .before .before .before .before .before .before .before .kid .ensures) (c .before .before .before .before .before .before .before .before .settings .ensures) refl refl (c .before .before .before .number-slot .ensures) refl

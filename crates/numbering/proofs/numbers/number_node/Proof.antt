@@ -15,22 +15,22 @@ use Rattle.numbering.proofs.numbers.number_kids.Reads as number-kids-re
 use Rattle.numbering.proofs.numbers.own_width.Reads as own-width-reads
 
 shared-slice-read-p : tie.Need-shared-slice-read-p
-shared-slice-read-p c = search needs
+shared-slice-read-p c = omega arith
 
 cast-stamp : tie.Need-cast-stamp
-cast-stamp c = search needs
+cast-stamp c = omega arith
 
 add-stamp : tie.Need-add-stamp
-add-stamp c = search needs
+add-stamp c = omega arith
 
 own-width-requires : tie.Need-own-width-requires
 own-width-requires c κs = (c .before .before .before .before .before .pre .0, c .before .before .before .before .before .pre .2)
 
 mul-hold-own : tie.Need-mul-hold-own
-mul-hold-own c = search needs
+mul-hold-own c = omega arith
 
 element-copy-out-hold-own : tie.Need-element-copy-out-hold-own
-element-copy-out-hold-own c = search needs
+element-copy-out-hold-own c = omega arith
 
 hold-own-requires : tie.Need-hold-own-requires
 hold-own-requires c κs =

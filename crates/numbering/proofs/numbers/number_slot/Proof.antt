@@ -22,43 +22,43 @@ loop-holds : tie.Need-loop-holds Inv-loop μ-loop
 loop-holds c = (slot-none _ _ _ _ _ _ _ _ _, omega arith, search needs, search needs)
 
 mul-label : tie.Need-mul-label Inv-loop μ-loop
-mul-label c = search needs
+mul-label c = omega arith
 
 add-label : tie.Need-add-label Inv-loop μ-loop
-add-label c = search needs
+add-label c = omega arith
 
 label-requires : tie.Need-label-requires Inv-loop μ-loop
-label-requires c κs = search needs
+label-requires c κs = tt
 
 hold-requires : tie.Need-hold-requires Inv-loop μ-loop
 hold-requires c κs = search needs
 
 cast-groups : tie.Need-cast-groups Inv-loop μ-loop
-cast-groups c = search needs
+cast-groups c = omega arith
 
 mul-groups : tie.Need-mul-groups Inv-loop μ-loop
-mul-groups c = search needs
+mul-groups c = omega arith
 
 element-copy-out-groups : tie.Need-element-copy-out-groups Inv-loop μ-loop
-element-copy-out-groups c = search needs
+element-copy-out-groups c = omega arith
 
 add-groups : tie.Need-add-groups Inv-loop μ-loop
-add-groups c = search needs
+add-groups c = omega arith
 
 mul-groups-2 : tie.Need-mul-groups-2 Inv-loop μ-loop
-mul-groups-2 c = search needs
+mul-groups-2 c = omega arith
 
 slice-write-groups : tie.Need-slice-write-groups Inv-loop μ-loop
-slice-write-groups c = search needs
+slice-write-groups c = omega arith
 
 add-next : tie.Need-add-next Inv-loop μ-loop
-add-next c = search needs
+add-next c = omega arith
 
 add-a : tie.Need-add-a Inv-loop μ-loop
-add-a c = search needs
+add-a c = omega arith
 
 loop-less : tie.Need-loop-less Inv-loop μ-loop
-loop-less c = search needs
+loop-less c = omega arith
 
 loop-again : tie.Need-loop-again Inv-loop μ-loop
 loop-again c = (slot-turn (c .before .before .before .before .before .before .loop .inv .0) (omega arith) (omega arith) (omega arith) (c .before .before .before .before .label .ensures) (c .before .hold .ensures .0) (c .before .hold .ensures .1) refl, omega arith, c .before .hold .ensures .0 .stamps-kept ∙ c .before .before .before .before .before .before .loop .inv .2, c .before .hold .ensures .0 .numbers-kept ∙ c .before .before .before .before .before .before .loop .inv .3)

@@ -11,16 +11,16 @@ use Rattle.book.proofs.left.Reads as left-reads
 use Rattle.book.proofs.settings.Reads as settings-reads
 
 mul-left : tie.Need-mul-left
-mul-left c = search needs
+mul-left c = omega arith
 
 element-copy-out-left : tie.Need-element-copy-out-left
 element-copy-out-left c = omega (arith, c .before .pre .1, c .before .pre .0 .accepted .few-prods)
 
 left-requires : tie.Need-left-requires
-left-requires c κs = search needs
+left-requires c κs = tt
 
 settings-requires : tie.Need-settings-requires
-settings-requires c κs = search needs
+settings-requires c κs = tt
 
 returns : tie.Need-returns
 returns c = let w = own-width (c .before .before .before .before .pre .0) (c .before .before .before .before .pre .1) refl (c .before .left .ensures) (c .settings .ensures) in (w, omega (arith, w, few-settings (c .before .before .before .before .pre .0 .accepted) _ (c .before .before .before .before .pre .1)))

@@ -16,13 +16,13 @@ too-many-requires : tie.Need-too-many-requires
 too-many-requires c κs = (clear-book (c .before .before .before .before .before .before .before .before .pre .0), c .before .before .before .before .before .before .before .before .pre .0 .plausible-counts, c .before .before .before .before .before .before .before .before .pre .0 .feasible-counts)
 
 refused-requires : tie.Need-refused-requires
-refused-requires c κs = search needs
+refused-requires c κs = tt
 
 returns : tie.Need-returns
 returns c = settled-big (c .before .before .before .before .before .before .before .before .before .before .before .pre .0) (c .before .before .too-many .ensures) (c .before .if1 .taken) (c .refused .ensures)
 
 index-requires : tie.Need-index-requires
-index-requires c κs = search needs
+index-requires c κs = tt
 
 choose-requires : tie.Need-choose-requires
 choose-requires c κs = (
@@ -40,7 +40,7 @@ enum-known-place : tie.Need-enum-known-place
 enum-known-place c = search needs
 
 refused-requires-2 : tie.Need-refused-requires-2
-refused-requires-2 c κs = search needs
+refused-requires-2 c κs = tt
 
 enum-told : tie.Need-enum-told
 enum-told c = search needs
@@ -59,7 +59,7 @@ fill-requires c κs = (
 )
 
 accepted-requires : tie.Need-accepted-requires
-accepted-requires c κs = search needs
+accepted-requires c κs = tt
 
 returns-2 : tie.Need-returns-2
 returns-2 c = settled-bad (c .before .before .before .before .before .before .before .before .before .before .before .before .before .before .before .before .before .before .before .before .before .pre .0) (c .before .before .before .before .before .before .before .before .before .before .before .before .too-many .ensures) (c .before .before .before .before .before .before .before .before .before .before .before .if1 .left) (c .before .before .before .before .choose .ensures) (c .before .before .place .given .1) (c .refused2 .ensures)

@@ -19,10 +19,10 @@ loop-holds : tie.Need-loop-holds Inv-loop μ-loop
 loop-holds c = multiplying-none max-kids _
 
 sub-j : tie.Need-sub-j Inv-loop μ-loop
-sub-j c = search needs
+sub-j c = omega arith
 
 array-read-product : tie.Need-array-read-product Inv-loop μ-loop
-array-read-product c = search needs
+array-read-product c = omega arith
 
 cast-product : tie.Need-cast-product Inv-loop μ-loop
 cast-product c = search needs
@@ -31,7 +31,7 @@ mul-product : tie.Need-mul-product Inv-loop μ-loop
 mul-product c = omega (arith, multiplying-small (multiplying-turn (c .before .loop .inv) (c .loop-test .taken) refl (search needs)))
 
 loop-less : tie.Need-loop-less Inv-loop μ-loop
-loop-less c = search needs
+loop-less c = omega arith
 
 loop-again : tie.Need-loop-again Inv-loop μ-loop
 loop-again c = multiplying-turn (c .before .loop .inv) (c .loop-test .taken) refl (search needs)

@@ -21,10 +21,10 @@ abbrev μ-loop : tie.MeasureT-loop
 μ-loop book places counts feasible-counts n starts₀ next₀ p₀ starts next p = n - p
 
 productions-requires : tie.Need-productions-requires Inv-loop μ-loop
-productions-requires c κs = search needs
+productions-requires c κs = tt
 
 cast-n : tie.Need-cast-n Inv-loop μ-loop
-cast-n c = search needs
+cast-n c = omega arith
 
 loop-holds : tie.Need-loop-holds Inv-loop μ-loop
 loop-holds c = down-summing-none (c .productions .ensures ∙ told-prods (c .before .before .before .before .pre .0 .accepted)) (c .before .before .before .before .pre .0 .accepted .few-prods)
@@ -42,10 +42,10 @@ element-copy-out-left : tie.Need-element-copy-out-left Inv-loop μ-loop
 element-copy-out-left c = omega (arith, c .before .loop .inv .sums .few)
 
 left-requires : tie.Need-left-requires Inv-loop μ-loop
-left-requires c κs = search needs
+left-requires c κs = tt
 
 cast-left : tie.Need-cast-left Inv-loop μ-loop
-cast-left c = search needs
+cast-left c = omega arith
 
 shared-slice-read-next : tie.Need-shared-slice-read-next Inv-loop μ-loop
 shared-slice-read-next c = omega (arith, left-low (c .before .before .before .before .before .before .before .before .before .pre .0) (omega (arith, c .before .before .before .before .loop .inv .all)) refl (c .before .left .ensures), c .before .before .before .before .before .before .before .before .before .pre .2)
@@ -57,7 +57,7 @@ kid-counts-requires : tie.Need-kid-counts-requires Inv-loop μ-loop
 kid-counts-requires c κs = (c .before .before .before .before .before .before .before .before .before .pre .0, omega (arith, c .before .before .before .before .loop .inv .all), c .before .before .before .before .before .before .before .before .before .pre .1)
 
 choices-of-requires : tie.Need-choices-of-requires Inv-loop μ-loop
-choices-of-requires c κs = search needs
+choices-of-requires c κs = tt
 
 mul-next : tie.Need-mul-next Inv-loop μ-loop
 mul-next c = omega (arith, product-small (c .before .before .shared-slice-known4 .given (c .before .before .before .left .result)) (c .choices-of .ensures .1))
@@ -66,10 +66,10 @@ add-next : tie.Need-add-next Inv-loop μ-loop
 add-next c = omega (arith, c .before .before .before .before .before .before .loop .inv .sums .small, c .before .before .before .before .before .before .loop .inv .sums .few, product-small (c .before .before .shared-slice-known4 .given (c .before .before .before .left .result)) (c .choices-of .ensures .1))
 
 add-p : tie.Need-add-p Inv-loop μ-loop
-add-p c = search needs
+add-p c = omega arith
 
 loop-less : tie.Need-loop-less Inv-loop μ-loop
-loop-less c = search needs
+loop-less c = omega arith
 
 loop-again : tie.Need-loop-again Inv-loop μ-loop
 loop-again c =

@@ -19,10 +19,10 @@ abbrev μ-loop : tie.MeasureT-loop
 μ-loop book places counts n starts₀ next₀ p₀ starts next p = n - p
 
 productions-requires : tie.Need-productions-requires Inv-loop μ-loop
-productions-requires c κs = search needs
+productions-requires c κs = tt
 
 cast-n : tie.Need-cast-n Inv-loop μ-loop
-cast-n c = search needs
+cast-n c = omega arith
 
 loop-holds : tie.Need-loop-holds Inv-loop μ-loop
 loop-holds c = up-summing-none (c .productions .ensures ∙ told-prods (c .before .before .before .pre .0 .accepted)) (c .before .before .before .pre .0 .accepted .few-prods)
@@ -37,16 +37,16 @@ kid-counts-requires : tie.Need-kid-counts-requires Inv-loop μ-loop
 kid-counts-requires c κs = (c .before .before .before .before .before .pre .0, omega (arith, c .before .loop .inv .all), c .before .before .before .before .before .pre .1)
 
 choices-of-requires : tie.Need-choices-of-requires Inv-loop μ-loop
-choices-of-requires c κs = search needs
+choices-of-requires c κs = tt
 
 add-next : tie.Need-add-next Inv-loop μ-loop
 add-next c = omega (arith, c .before .before .before .loop .inv .sums .small, c .before .before .before .loop .inv .sums .few, c .choices-of .ensures .1)
 
 add-p : tie.Need-add-p Inv-loop μ-loop
-add-p c = search needs
+add-p c = omega arith
 
 loop-less : tie.Need-loop-less Inv-loop μ-loop
-loop-less c = search needs
+loop-less c = omega arith
 
 loop-again : tie.Need-loop-again Inv-loop μ-loop
 loop-again c = up-summing-turn (c .before .before .before .loop .inv) (c .before .before .loop-test .taken) (c .before .kid-counts .ensures) (c .choices-of .ensures .0) (c .choices-of .ensures .1)

@@ -20,61 +20,61 @@ loop-holds : tie.Need-loop-holds Inv-loop μ-loop
 loop-holds c = telling-none _ _ _ _ _ (omega arith) (omega arith)
 
 element-copy-out-long : tie.Need-element-copy-out-long Inv-loop μ-loop
-element-copy-out-long c = search needs
+element-copy-out-long c = omega arith
 
 long-requires : tie.Need-long-requires Inv-loop μ-loop
-long-requires c κs = search needs
+long-requires c κs = tt
 
 mul-nodes : tie.Need-mul-nodes Inv-loop μ-loop
-mul-nodes c = search needs
+mul-nodes c = omega arith
 
 mul-nodes-2 : tie.Need-mul-nodes-2 Inv-loop μ-loop
-mul-nodes-2 c = search needs
+mul-nodes-2 c = omega arith
 
 slice-write-nodes : tie.Need-slice-write-nodes Inv-loop μ-loop
-slice-write-nodes c = search needs
+slice-write-nodes c = omega arith
 
 element-copy-out-long-2 : tie.Need-element-copy-out-long-2 Inv-loop μ-loop
-element-copy-out-long-2 c = search needs
+element-copy-out-long-2 c = omega arith
 
 long-requires-2 : tie.Need-long-requires-2 Inv-loop μ-loop
-long-requires-2 c κs = search needs
+long-requires-2 c κs = tt
 
 mul-nodes-3 : tie.Need-mul-nodes-3 Inv-loop μ-loop
-mul-nodes-3 c = search needs
+mul-nodes-3 c = omega arith
 
 add-nodes : tie.Need-add-nodes Inv-loop μ-loop
-add-nodes c = search needs
+add-nodes c = omega arith
 
 mul-nodes-4 : tie.Need-mul-nodes-4 Inv-loop μ-loop
-mul-nodes-4 c = search needs
+mul-nodes-4 c = omega arith
 
 slice-write-nodes-2 : tie.Need-slice-write-nodes-2 Inv-loop μ-loop
 slice-write-nodes-2 c = simp length-set (omega arith)
 
 mul-nodes-5 : tie.Need-mul-nodes-5 Inv-loop μ-loop
-mul-nodes-5 c = search needs
+mul-nodes-5 c = omega arith
 
 element-copy-out-nodes : tie.Need-element-copy-out-nodes Inv-loop μ-loop
-element-copy-out-nodes c = search needs
+element-copy-out-nodes c = omega arith
 
 mul-nodes-6 : tie.Need-mul-nodes-6 Inv-loop μ-loop
-mul-nodes-6 c = search needs
+mul-nodes-6 c = omega arith
 
 add-nodes-2 : tie.Need-add-nodes-2 Inv-loop μ-loop
-add-nodes-2 c = search needs
+add-nodes-2 c = omega arith
 
 mul-nodes-7 : tie.Need-mul-nodes-7 Inv-loop μ-loop
-mul-nodes-7 c = search needs
+mul-nodes-7 c = omega arith
 
 slice-write-nodes-3 : tie.Need-slice-write-nodes-3 Inv-loop μ-loop
 slice-write-nodes-3 c = simp length-set (omega arith)
 
 add-i : tie.Need-add-i Inv-loop μ-loop
-add-i c = search needs
+add-i c = omega arith
 
 loop-less : tie.Need-loop-less Inv-loop μ-loop
-loop-less c = search needs
+loop-less c = omega arith
 
 loop-again : tie.Need-loop-again Inv-loop μ-loop
 loop-again c = telling-turn (c .before .before .before .before .before .before .loop .inv) (c .before .before .before .before .before .loop-test .taken) (c .before .before .before .long .ensures) (c .before .long2 .ensures) refl

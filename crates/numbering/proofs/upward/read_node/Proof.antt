@@ -15,13 +15,13 @@ use Rattle.numbering.proofs.kin.kin_of.Reads as kin-of-reads
 use Rattle.ranks.proofs.read_up.Reads as read-up-reads
 
 mul-at : tie.Need-mul-at
-mul-at c = search needs
+mul-at c = omega arith
 
 element-copy-out-at : tie.Need-element-copy-out-at
 element-copy-out-at c = omega (arith, c .before .before .before .pre .0 .accepted .few-prods)
 
 arity-requires : tie.Need-arity-requires
-arity-requires c κs = search needs
+arity-requires c κs = tt
 
 kin-of-requires : tie.Need-kin-of-requires
 kin-of-requires c κs = (c .before .before .before .before .before .pre .4, c .before .before .before .before .before .pre .5, rw ((opened (c .before .before .before .before .before .pre .0) (c .before .before .before .before .before .pre .1) refl (c .arity .ensures)) .count) (c .before .before .before .before .before .pre .6))
@@ -30,7 +30,7 @@ kid-counts-requires : tie.Need-kid-counts-requires
 kid-counts-requires c κs = search needs
 
 read-up-requires : tie.Need-read-up-requires
-read-up-requires c κs = search needs
+read-up-requires c κs = tt
 
 enum-told : tie.Need-enum-told
 enum-told c = search needs
@@ -39,10 +39,10 @@ enum-known-rank : tie.Need-enum-known-rank
 enum-known-rank c = search needs
 
 left-requires : tie.Need-left-requires
-left-requires c κs = search needs
+left-requires c κs = tt
 
 cast-left : tie.Need-cast-left
-cast-left c = search needs
+cast-left c = omega arith
 
 shared-slice-read-if1 : tie.Need-shared-slice-read-if1
 shared-slice-read-if1 c = omega (arith, left-low (c .before .before .before .before .before .before .before .before .before .before .before .before .before .before .pre .0) (c .before .before .before .before .before .before .before .before .before .before .before .before .before .before .pre .1) refl (c .before .left .ensures), c .before .before .before .before .before .before .before .before .before .before .before .before .before .before .pre .2)
