@@ -15,11 +15,8 @@ use Rattle.numbering.proofs.writing.fill.Reads as fill-reads
 too-many-requires : tie.Need-too-many-requires
 too-many-requires c κs = (clear-book (c .before .before .before .before .before .before .before .before .pre .0), c .before .before .before .before .before .before .before .before .pre .0 .plausible-counts, c .before .before .before .before .before .before .before .before .pre .0 .feasible-counts)
 
-refused-requires : tie.Need-refused-requires
-refused-requires c κs = tt
-
 returns : tie.Need-returns
-returns c = settled-big (c .before .before .before .before .before .before .before .before .before .before .before .pre .0) (c .before .before .too-many .ensures) (c .before .if1 .taken) (c .refused .ensures)
+returns c = settled-big (c .before .before .before .before .before .before .before .before .before .before .pre .0) (c .before .too-many .ensures) (c .if1 .taken) refl
 
 index-requires : tie.Need-index-requires
 index-requires c κs = tt
@@ -39,9 +36,6 @@ choose-requires c κs = (
 enum-known-place : tie.Need-enum-known-place
 enum-known-place c = search needs
 
-refused-requires-2 : tie.Need-refused-requires-2
-refused-requires-2 c κs = tt
-
 enum-told : tie.Need-enum-told
 enum-told c = search needs
 
@@ -58,11 +52,8 @@ fill-requires c κs = (
   c .before .before .before .before .before .before .before .before .before .choose .ensures .entries-long,
 )
 
-accepted-requires : tie.Need-accepted-requires
-accepted-requires c κs = tt
-
 returns-2 : tie.Need-returns-2
-returns-2 c = settled-bad (c .before .before .before .before .before .before .before .before .before .before .before .before .before .before .before .before .before .before .before .before .before .pre .0) (c .before .before .before .before .before .before .before .before .before .before .before .before .too-many .ensures) (c .before .before .before .before .before .before .before .before .before .before .before .if1 .left) (c .before .before .before .before .choose .ensures) (c .before .before .place .given .1) (c .refused2 .ensures)
+returns-2 c = settled-bad (c .before .before .before .before .before .before .before .before .before .before .before .before .before .before .before .before .before .before .before .before .pre .0) (c .before .before .before .before .before .before .before .before .before .before .before .too-many .ensures) (c .before .before .before .before .before .before .before .before .before .before .if1 .left) (c .before .before .before .choose .ensures) (c .before .place .given .1) refl
 
 same-length : tie.Need-same-length
 same-length c = search needs
@@ -71,22 +62,19 @@ same-length-2 : tie.Need-same-length-2
 same-length-2 c = search needs
 
 returns-3 : tie.Need-returns-3
-returns-3 c = settled-well (c .before .before .before .before .before .before .before .before .before .before .before .before .before .before .before .before .before .before .before .before .before .before .before .before .before .before .before .before .before .before .before .before .pre .0) (c .before .before .before .before .before .before .before .before .before .before .before .before .before .before .before .before .before .before .before .before .before .before .before .too-many .ensures) (c .before .before .before .before .before .before .before .before .before .before .before .before .before .before .before .before .before .before .before .before .before .before .if1 .left) (c .before .before .before .before .before .before .before .before .before .before .before .before .before .before .before .choose .ensures) (c .before .before .before .before .before .before .before .before .before .before .before .before .before .enum-told .given .1) (c .before .before .before .before .before .before .before .before .before .before .before .before .before .before .before .before .before .before .before .before .before .before .before .before .before .before .before .before .before .before .before .before .pre .1) (c .before .before .before .before .before .before .before .before .before .before .before .before .before .before .before .before .before .before .before .before .before .before .before .before .before .before .before .before .before .before .before .before .pre .2) (c .before .before .before .before .before .fill .ensures) (c .accepted .ensures)
+returns-3 c = settled-well (c .before .before .before .before .before .before .before .before .before .before .before .before .before .before .before .before .before .before .before .before .before .before .before .before .before .before .before .before .before .before .before .pre .0) (c .before .before .before .before .before .before .before .before .before .before .before .before .before .before .before .before .before .before .before .before .before .before .too-many .ensures) (c .before .before .before .before .before .before .before .before .before .before .before .before .before .before .before .before .before .before .before .before .before .if1 .left) (c .before .before .before .before .before .before .before .before .before .before .before .before .before .before .choose .ensures) (c .before .before .before .before .before .before .before .before .before .before .before .before .enum-told .given .1) (c .before .before .before .before .before .before .before .before .before .before .before .before .before .before .before .before .before .before .before .before .before .before .before .before .before .before .before .before .before .before .before .pre .1) (c .before .before .before .before .before .before .before .before .before .before .before .before .before .before .before .before .before .before .before .before .before .before .before .before .before .before .before .before .before .before .before .pre .2) (c .before .before .before .before .fill .ensures) refl
 
 pub settle-spec : {M : Type 1} → statement M
 settle-spec =
     tie.close
     (tie.spec
     too-many-requires
-    refused-requires
     returns
     index-requires
     choose-requires
     enum-known-place
-    refused-requires-2
     enum-told
     fill-requires
-    accepted-requires
     returns-2
     same-length
     same-length-2
