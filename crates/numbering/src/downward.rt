@@ -59,7 +59,6 @@ fn hand_down(
 fn read_node(
     book: &[u8],
     places: &[usize; PRODUCTIONS],
-    sheet: &[u8],
     counts: &[u8],
     feasible_counts: &[u8],
     down: &[u8],
@@ -74,7 +73,7 @@ fn read_node(
         × (start ≡ down-start (grammar (now book)) (now counts) (now «feasible_counts») p)
         × (length (now plausible) ≡ max-nodes) × (length (now ends) ≡ max-nodes) × (length (now feasible) ≡ max-nodes)
         × Children (now ends) i (length (grammar (now book) .kids p)) ⌝ }
-    ensures { λ r. ⌜ DownNodeRead (now (book .entry)) (now (sheet .entry)) (now (counts .entry)) (now («feasible_counts» .entry)) (now (down .entry))
+    ensures { λ r. ⌜ DownNodeRead (now (book .entry)) (now (counts .entry)) (now («feasible_counts» .entry)) (now (down .entry))
         (now (plausible .entry)) (now (ends .entry)) i p (now (feasible .entry)) (now (feasible .exit)) r ⌝ }
 {
     let at = places[p];
@@ -128,7 +127,6 @@ pub fn read_downward(
         match read_node(
             book,
             places,
-            sheet,
             counts,
             feasible_counts,
             down,
