@@ -10,7 +10,6 @@ mod settling;
 mod starts;
 mod telling;
 mod upward;
-mod writing;
 
 ghost use Rattle.numbering.specs.Walk.{tables};
 ghost use Rattle.numbering.specs.Promise.{lent, CallDue};

@@ -11,8 +11,9 @@ use super::Grouping;
 use super::choice::choose;
 use super::counts::too_many;
 use super::limits::NODES;
+use super::numbers::number_all;
+use super::telling::tell;
 use super::upward::Reads;
-use super::writing::fill;
 
 // Ranks and entries stand in arrays of its own until every read has been good; only then is the lent memory written.
 pub fn settle(
@@ -58,18 +59,8 @@ pub fn settle(
     ) {
         Reads::Bad(place) => Grouping::Refused { number: 25, place },
         Reads::All => {
-            let used = fill(
-                book,
-                &places,
-                sheet,
-                down,
-                &plausible,
-                &ends,
-                &feasible,
-                &entries,
-                nodes,
-                groups,
-            );
+            tell(sheet.len(), &plausible, &feasible, &entries, nodes);
+            let used = number_all(book, &places, sheet, down, &ends, &entries, groups);
             Grouping::Accepted {
                 nodes: count,
                 settings,
