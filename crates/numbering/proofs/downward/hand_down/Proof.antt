@@ -2,6 +2,7 @@ use mathlib.Core.Path.{_≡_, refl, sym, ap, _∙_}
 use Prim.Native.Nat.{_+_, _-_, _*_, _≤_, _<_}
 use native.Mathlib.Omega.{arith}
 use borrow.Author.Needs.{needs}
+use Rattle.numbering.proofs.Words.{wide, wide-below, next-byte, less-left, place-after, place-twice, place-wide}
 use Rattle.numbering.proofs.Children.{opened, kid-low, end-low}
 use Rattle.numbering.proofs.Handing.{Handing, handing-none, handing-inside, handing-turn, handing-bad, handing-done}
 use Rattle.numbering.proofs.downward.hand_down.Statement.{statement}
@@ -28,13 +29,13 @@ arity-requires : tie.Need-arity-requires Inv-loop μ-loop
 arity-requires c κs = tt
 
 add-child : tie.Need-add-child Inv-loop μ-loop
-add-child c = omega arith
+add-child c = place-after (c .before .before .before .before .before .pre .5 .inside)
 
 loop-holds : tie.Need-loop-holds Inv-loop μ-loop
 loop-holds c = handing-none _ (opened (c .before .before .before .before .before .pre .0) (c .before .before .before .before .before .pre .1) refl (c .arity .ensures)) (c .before .before .before .before .before .pre .5) (c .before .before .before .before .before .pre .3)
 
 cast-child-rank : tie.Need-cast-child-rank Inv-loop μ-loop
-cast-child-rank c = omega arith
+cast-child-rank c = wide-below (c .loop-test .taken) (c .before .before .arity .ok)
 
 child-rank-requires : tie.Need-child-rank-requires Inv-loop μ-loop
 child-rank-requires c κs = tt
@@ -43,7 +44,7 @@ kid-requires : tie.Need-kid-requires Inv-loop μ-loop
 kid-requires c κs = tt
 
 cast-kind : tie.Need-cast-kind Inv-loop μ-loop
-cast-kind c = omega arith
+cast-kind c = wide (c .kid .ok)
 
 shared-slice-read-if1 : tie.Need-shared-slice-read-if1 Inv-loop μ-loop
 shared-slice-read-if1 c = omega (arith, kid-low (c .before .before .before .before .loop .inv .opened) _ (c .before .before .before .loop-test .taken) (c .before .kid .ensures), c .before .before .before .before .before .before .before .before .before .before .pre .2)
@@ -52,22 +53,22 @@ returns : tie.Need-returns Inv-loop μ-loop
 returns c = handing-bad (c .before .before .before .before .before .before .loop .inv) (c .before .before .before .before .before .loop-test .taken) (c .before .before .before .kid .ensures) (c .before .before .before .before .child-rank .ensures) (c .if1 .taken)
 
 element-write-feasible : tie.Need-element-write-feasible Inv-loop μ-loop
-element-write-feasible c = omega (arith, handing-inside (c .before .before .before .before .before .before .loop .inv) (c .before .before .before .before .before .loop-test .taken))
+element-write-feasible c = handing-inside (c .before .before .before .before .before .before .loop .inv) (c .before .before .before .before .before .loop-test .taken)
 
 mul-child : tie.Need-mul-child Inv-loop μ-loop
-mul-child c = omega (arith, handing-inside (c .before .before .before .before .before .before .loop .inv) (c .before .before .before .before .before .loop-test .taken))
+mul-child c = place-twice (handing-inside (c .before .before .before .before .before .before .loop .inv) (c .before .before .before .before .before .loop-test .taken))
 
 element-copy-out-child : tie.Need-element-copy-out-child Inv-loop μ-loop
-element-copy-out-child c = omega (arith, handing-inside (c .before .before .before .before .before .before .loop .inv) (c .before .before .before .before .before .loop-test .taken))
+element-copy-out-child c = handing-inside (c .before .before .before .before .before .before .loop .inv) (c .before .before .before .before .before .loop-test .taken)
 
 cast-child : tie.Need-cast-child Inv-loop μ-loop
-cast-child c = omega (arith, end-low (c .before .before .before .before .before .before .before .loop .inv .children) (c .before .before .before .before .before .before .loop-test .taken) (c .before .before .before .before .before .before .before .loop .inv .stands))
+cast-child c = place-wide (end-low (c .before .before .before .before .before .before .before .loop .inv .children) (c .before .before .before .before .before .before .loop-test .taken) (c .before .before .before .before .before .before .before .loop .inv .stands))
 
 add-j : tie.Need-add-j Inv-loop μ-loop
-add-j c = omega arith
+add-j c = next-byte (c .before .before .before .before .before .before .loop-test .taken) (c .before .before .before .before .before .before .before .before .arity .ok)
 
 loop-less : tie.Need-loop-less Inv-loop μ-loop
-loop-less c = omega arith
+loop-less c = less-left (c .before .before .before .before .before .before .loop-test .taken)
 
 loop-again : tie.Need-loop-again Inv-loop μ-loop
 loop-again c = handing-turn (c .before .before .before .before .before .before .before .loop .inv) (c .before .before .before .before .before .before .loop-test .taken) (c .before .before .before .before .kid .ensures) (c .before .before .before .before .before .child-rank .ensures) (omega arith) refl

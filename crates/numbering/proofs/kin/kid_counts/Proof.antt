@@ -2,6 +2,7 @@ use mathlib.Core.Path.{_≡_, refl, sym, ap, _∙_}
 use Prim.Native.Nat.{_+_, _-_, _*_, _≤_, _<_}
 use native.Mathlib.Omega.{arith}
 use borrow.Author.Needs.{needs}
+use Rattle.numbering.proofs.Words.{wide, wide-below, next-byte, less-left}
 use Rattle.numbering.proofs.Children.{opened, kid-low, Counting, counting-none, counting-turn, counting-done}
 use Rattle.numbering.proofs.kin.kid_counts.Statement.{statement}
 use Rattle.numbering.proofs.kin.kid_counts.Tie as tie
@@ -32,22 +33,22 @@ kid-requires : tie.Need-kid-requires Inv-loop μ-loop
 kid-requires c κs = tt
 
 cast-kind : tie.Need-cast-kind Inv-loop μ-loop
-cast-kind c = omega arith
+cast-kind c = wide (c .kid .ok)
 
 shared-slice-read-out : tie.Need-shared-slice-read-out Inv-loop μ-loop
 shared-slice-read-out c = omega (arith, kid-low (c .before .before .before .loop .inv .opened) _ (c .before .before .loop-test .taken) (c .before .kid .ensures))
 
 cast-out : tie.Need-cast-out Inv-loop μ-loop
-cast-out c = omega arith
+cast-out c = wide-below (c .before .before .loop-test .taken) (c .before .before .before .before .arity .ok)
 
 array-write-out : tie.Need-array-write-out Inv-loop μ-loop
 array-write-out c = omega (arith, c .before .before .before .loop .inv .opened .few)
 
 add-j : tie.Need-add-j Inv-loop μ-loop
-add-j c = omega arith
+add-j c = next-byte (c .before .before .loop-test .taken) (c .before .before .before .before .arity .ok)
 
 loop-less : tie.Need-loop-less Inv-loop μ-loop
-loop-less c = omega arith
+loop-less c = less-left (c .before .before .loop-test .taken)
 
 loop-again : tie.Need-loop-again Inv-loop μ-loop
 loop-again c = (counting-turn (c .before .before .before .loop .inv) (c .before .before .loop-test .taken) (c .before .kid .ensures) refl)

@@ -2,6 +2,7 @@ use mathlib.Core.Path.{_≡_, refl, sym, ap, _∙_}
 use Prim.Native.Nat.{_+_, _-_, _*_, _^_, _≤_, _<_}
 use native.Mathlib.Omega.{arith}
 use borrow.Author.Needs.{needs}
+use Rattle.numbering.proofs.Words.{next-byte, less-left, place-after, place-twice, place-wide}
 use Rattle.numbering.proofs.Children.{opened, end-low}
 use Rattle.numbering.proofs.Families.{Naming, naming-none, naming-inside, naming-narrow, naming-fits, naming-low, naming-turn, naming-done}
 use Rattle.numbering.proofs.numbers.number_kids.Statement.{statement}
@@ -30,13 +31,13 @@ arity-requires : tie.Need-arity-requires Inv-loop μ-loop
 arity-requires c κs = tt
 
 add-child : tie.Need-add-child Inv-loop μ-loop
-add-child c = omega arith
+add-child c = place-after (c .before .before .before .before .before .before .pre .3 .inside)
 
 loop-holds : tie.Need-loop-holds Inv-loop μ-loop
 loop-holds c = naming-none (opened (c .before .before .before .before .before .before .pre .0) (c .before .before .before .before .before .before .pre .1) refl (c .arity .ensures)) (c .before .before .before .before .before .before .pre .3) (c .before .before .before .before .before .before .pre .4) (c .before .before .before .before .before .before .pre .5) (c .before .before .before .before .before .before .pre .2) (c .before .before .before .before .before .before .pre .6) (c .before .before .before .before .before .before .pre .9) (c .before .before .before .before .before .before .pre .10)
 
 add-number-slot : tie.Need-add-number-slot Inv-loop μ-loop
-add-number-slot c = omega arith
+add-number-slot c = next-byte (c .loop-test .taken) (c .before .before .arity .ok)
 
 kid-requires : tie.Need-kid-requires Inv-loop μ-loop
 kid-requires c κs = tt
@@ -45,10 +46,10 @@ settings-requires : tie.Need-settings-requires Inv-loop μ-loop
 settings-requires c κs = tt
 
 mul-number-slot : tie.Need-mul-number-slot Inv-loop μ-loop
-mul-number-slot c = omega (arith, naming-inside (c .before .before .before .loop .inv) (c .before .before .loop-test .taken))
+mul-number-slot c = place-twice (naming-inside (c .before .before .before .loop .inv) (c .before .before .loop-test .taken))
 
 element-copy-out-number-slot : tie.Need-element-copy-out-number-slot Inv-loop μ-loop
-element-copy-out-number-slot c = omega (arith, naming-inside (c .before .before .before .loop .inv) (c .before .before .loop-test .taken))
+element-copy-out-number-slot c = naming-inside (c .before .before .before .loop .inv) (c .before .before .loop-test .taken)
 
 number-slot-requires : tie.Need-number-slot-requires Inv-loop μ-loop
 number-slot-requires c κs =
@@ -59,19 +60,19 @@ number-slot-requires c κs =
     (omega (arith, n .opened .few), naming-narrow n t ex ew refl, naming-fits n t ex ew refl, naming-low n t ex ew refl, n .stamps-long, n .numbers-long)
 
 mul-child : tie.Need-mul-child Inv-loop μ-loop
-mul-child c = omega (arith, naming-inside (c .before .before .before .before .before .before .before .before .before .before .loop .inv) (c .before .before .before .before .before .before .before .before .before .loop-test .taken))
+mul-child c = place-twice (naming-inside (c .before .before .before .before .before .before .before .before .before .before .loop .inv) (c .before .before .before .before .before .before .before .before .before .loop-test .taken))
 
 element-copy-out-child : tie.Need-element-copy-out-child Inv-loop μ-loop
-element-copy-out-child c = omega (arith, naming-inside (c .before .before .before .before .before .before .before .before .before .before .loop .inv) (c .before .before .before .before .before .before .before .before .before .loop-test .taken))
+element-copy-out-child c = naming-inside (c .before .before .before .before .before .before .before .before .before .before .loop .inv) (c .before .before .before .before .before .before .before .before .before .loop-test .taken)
 
 cast-child : tie.Need-cast-child Inv-loop μ-loop
-cast-child c = omega (arith, end-low (c .before .before .before .before .before .before .before .before .before .before .before .loop .inv .children) (c .before .before .before .before .before .before .before .before .before .before .loop-test .taken) (c .before .before .before .before .before .before .before .before .before .before .before .loop .inv .stands))
+cast-child c = place-wide (end-low (c .before .before .before .before .before .before .before .before .before .before .before .loop .inv .children) (c .before .before .before .before .before .before .before .before .before .before .loop-test .taken) (c .before .before .before .before .before .before .before .before .before .before .before .loop .inv .stands))
 
 add-j : tie.Need-add-j Inv-loop μ-loop
-add-j c = omega arith
+add-j c = next-byte (c .before .before .before .before .before .before .before .before .before .before .loop-test .taken) (c .before .before .before .before .before .before .before .before .before .before .before .before .arity .ok)
 
 loop-less : tie.Need-loop-less Inv-loop μ-loop
-loop-less c = omega arith
+loop-less c = less-left (c .before .before .before .before .before .before .before .before .before .before .loop-test .taken)
 
 loop-again : tie.Need-loop-again Inv-loop μ-loop
 loop-again c = naming-turn (c .before .before .before .before .before .before .before .before .before .before .before .loop .inv) (c .before .before .before .before .before .before .before .before .before .before .loop-test .taken) (c .before .before .before .before .before .before .before .before .before .kid .ensures) (c .before .before .before .before .before .before .before .before .settings .ensures) refl refl (c .before .before .before .number-slot .ensures) refl

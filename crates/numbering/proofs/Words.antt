@@ -1,0 +1,29 @@
+-- Numbers that fit a word, by what bounds them: answers to what the code asks of its sums, products and casts.
+use Prim.Native.Nat.{ℕ, _+_, _-_, _*_, _≤_, _<_}
+use native.Mathlib.Omega.{arith}
+use mir.Syntax.{w8, w64}
+use mir.Val.{Fits}
+use Rattle.chains.specs.Limits.{max-nodes}
+
+pub wide : {x : ℕ} → x < 256 → Fits w64 x
+wide f = omega (arith, f)
+
+-- a number below a byte, and the one after it
+pub wide-below : {j k : ℕ} → j < k → k < 256 → Fits w64 j
+wide-below l f = omega (arith, l, f)
+
+pub next-byte : {j k : ℕ} → j < k → k < 256 → Fits w8 (j + 1)
+next-byte l f = omega (arith, l, f)
+
+pub less-left : {j k : ℕ} → j < k → k - (j + 1) < k - j
+less-left l = omega (arith, l)
+
+-- a node's place
+pub place-after : {i : ℕ} → i < max-nodes → Fits w64 (i + 1)
+place-after l = omega (arith, l)
+
+pub place-twice : {i : ℕ} → i < max-nodes → Fits w64 (i * 2)
+place-twice l = omega (arith, l)
+
+pub place-wide : {i : ℕ} → i ≤ max-nodes → Fits w64 i
+place-wide l = omega (arith, l)
