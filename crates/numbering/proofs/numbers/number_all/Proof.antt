@@ -5,7 +5,8 @@ use borrow.Author.Needs.{needs}
 use lib.ListN.{length, getD}
 use Rattle.book.specs.Format.{grammar}
 use Rattle.numbering.specs.Giving.{Firsts}
-use Rattle.numbering.proofs.Trees.{node-at, settings-inside}
+use Rattle.numbering.proofs.Words.{less-left, place-after, place-eight, below, fits-kept, first-numbers}
+use Rattle.numbering.proofs.Trees.{node-at, root-inside}
 use Rattle.numbering.proofs.Walking.{Walking, walking-begins, beyond-root, walking-known, walking-low, walking-children, walking-kinds, walking-turn, walking-done}
 use Rattle.numbering.proofs.numbers.number_all.Statement.{statement}
 use Rattle.numbering.proofs.numbers.number_all.Tie as tie
@@ -30,7 +31,7 @@ element-copy-out-number-slot : tie.Need-element-copy-out-number-slot Inv-loop μ
 element-copy-out-number-slot c = omega arith
 
 shared-slice-read-own-width : tie.Need-shared-slice-read-own-width Inv-loop μ-loop
-shared-slice-read-own-width c = omega (arith, c .before .before .before .before .before .before .before .pre .1 .some)
+shared-slice-read-own-width c = c .before .before .before .before .before .before .before .pre .1 .some
 
 own-width-requires : tie.Need-own-width-requires Inv-loop μ-loop
 own-width-requires c κs = (c .before .before .before .before .before .before .before .pre .0, node-at (c .before .before .before .before .before .before .before .pre .1 .tree-of) 0 (c .before .before .before .before .before .before .before .pre .1 .some) .known)
@@ -39,16 +40,16 @@ number-slot-requires : tie.Need-number-slot-requires Inv-loop μ-loop
 number-slot-requires c κs =
     let s = c .before .before .before .before .before .before .before .before .before .before .before in
     let w = c .before .before .before .own-width .ensures in
-    (omega arith, w .1, omega (arith, w .0, settings-inside (grammar (s .args .book .now)) (s .args .sheet .now) 0 (s .pre .1 .some), s .pre .3), omega (arith, w .1), refl, refl)
+    (omega arith, w .1, root-inside (grammar (s .args .book .now)) (s .args .sheet .now) (w .0) (s .pre .1 .some) (s .pre .3), first-numbers (w .1), refl, refl)
 
 loop-holds : tie.Need-loop-holds Inv-loop μ-loop
 loop-holds c = (walking-begins (c .before .before .before .before .before .before .before .before .before .before .before .before .before .before .pre .1) (c .before .before .before .before .before .before .before .before .before .before .before .before .before .before .pre .3) refl (c .before .before .before .before .before .before .own-width .ensures .0) (c .before .before .number-slot .ensures), c .before .before .before .before .before .before .before .before .before .first-places .ensures)
 
 mul-number-node : tie.Need-mul-number-node Inv-loop μ-loop
-mul-number-node c = omega (arith, c .before .loop .inv .0 .few)
+mul-number-node c = place-eight (below (c .loop-test .taken) (c .before .loop .inv .0 .few))
 
 element-copy-out-number-node : tie.Need-element-copy-out-number-node Inv-loop μ-loop
-element-copy-out-number-node c = omega (arith, c .before .loop .inv .0 .few)
+element-copy-out-number-node c = below (c .loop-test .taken) (c .before .loop .inv .0 .few)
 
 number-node-requires : tie.Need-number-node-requires Inv-loop μ-loop
 number-node-requires c κs =
@@ -63,7 +64,7 @@ number-node-requires c κs =
       walking-children k (s .pre .2) a t,
       walking-kinds k (s .pre .2) a t,
       c .before .before .before .before .before .before .loop .inv .1,
-      omega (arith, k .room, k .long),
+      fits-kept (k .room) (k .long),
       s .pre .4,
       c .before .before .before .before .before .before .loop .inv .1 .long,
       k .stamps-long,
@@ -71,10 +72,10 @@ number-node-requires c κs =
     )
 
 add-i : tie.Need-add-i Inv-loop μ-loop
-add-i c = omega arith
+add-i c = place-after (below (c .before .before .before .before .before .before .before .before .loop-test .taken) (c .before .before .before .before .before .before .before .before .before .loop .inv .0 .few))
 
 loop-less : tie.Need-loop-less Inv-loop μ-loop
-loop-less c = omega arith
+loop-less c = less-left (c .before .before .before .before .before .before .before .before .loop-test .taken)
 
 loop-again : tie.Need-loop-again Inv-loop μ-loop
 loop-again c = (walking-turn (c .before .before .before .before .before .before .before .before .before .loop .inv .0) (c .before .before .before .before .before .before .before .before .loop-test .taken) refl (c .before .before .number-node .ensures), c .before .before .before .before .before .before .before .before .before .loop .inv .1)

@@ -4,6 +4,7 @@ use native.Mathlib.Omega.{arith}
 use borrow.Author.Needs.{needs}
 use Rattle.bookcheck.proofs.Accepted.{told-prods}
 use Rattle.numbering.proofs.Children.{left-is, left-low}
+use Rattle.numbering.proofs.Words.{less-left, prod-after, prod-eight, below}
 use Rattle.numbering.proofs.Products.{DownSumming, down-summing-none, product-small, down-summing-turn, down-summing-done}
 use Rattle.numbering.proofs.starts.down_starts.Statement.{statement}
 use Rattle.numbering.proofs.starts.down_starts.Tie as tie
@@ -30,16 +31,16 @@ loop-holds : tie.Need-loop-holds Inv-loop μ-loop
 loop-holds c = down-summing-none (c .productions .ensures ∙ told-prods (c .before .before .before .before .pre .0 .accepted)) (c .before .before .before .before .pre .0 .accepted .few-prods)
 
 mul-starts : tie.Need-mul-starts Inv-loop μ-loop
-mul-starts c = omega (arith, c .before .loop .inv .sums .few)
+mul-starts c = prod-eight (below (c .loop-test .taken) (c .before .loop .inv .sums .few))
 
 array-write-starts : tie.Need-array-write-starts Inv-loop μ-loop
-array-write-starts c = omega (arith, c .before .loop .inv .sums .few)
+array-write-starts c = below (c .loop-test .taken) (c .before .loop .inv .sums .few)
 
 mul-left : tie.Need-mul-left Inv-loop μ-loop
-mul-left c = omega (arith, c .before .loop .inv .sums .few)
+mul-left c = prod-eight (below (c .loop-test .taken) (c .before .loop .inv .sums .few))
 
 element-copy-out-left : tie.Need-element-copy-out-left Inv-loop μ-loop
-element-copy-out-left c = omega (arith, c .before .loop .inv .sums .few)
+element-copy-out-left c = below (c .loop-test .taken) (c .before .loop .inv .sums .few)
 
 left-requires : tie.Need-left-requires Inv-loop μ-loop
 left-requires c κs = tt
@@ -66,10 +67,10 @@ add-next : tie.Need-add-next Inv-loop μ-loop
 add-next c = omega (arith, c .before .before .before .before .before .before .loop .inv .sums .small, c .before .before .before .before .before .before .loop .inv .sums .few, product-small (c .before .before .shared-slice-known4 .given (c .before .before .before .left .result)) (c .choices-of .ensures .1))
 
 add-p : tie.Need-add-p Inv-loop μ-loop
-add-p c = omega arith
+add-p c = prod-after (below (c .before .before .before .before .before .loop-test .taken) (c .before .before .before .before .before .before .loop .inv .sums .few))
 
 loop-less : tie.Need-loop-less Inv-loop μ-loop
-loop-less c = omega arith
+loop-less c = less-left (c .before .before .before .before .before .loop-test .taken)
 
 loop-again : tie.Need-loop-again Inv-loop μ-loop
 loop-again c =

@@ -3,6 +3,7 @@ use Prim.Native.Nat.{_+_, _-_, _*_, _^_, _≤_, _<_}
 use native.Mathlib.Omega.{arith}
 use borrow.Author.Needs.{needs}
 use Rattle.bookcheck.proofs.Accepted.{told-prods}
+use Rattle.numbering.proofs.Words.{less-left, prod-after, prod-eight, below}
 use Rattle.numbering.proofs.Products.{UpSumming, up-summing-none, up-summing-turn, up-summing-done}
 use Rattle.numbering.proofs.starts.up_starts.Statement.{statement}
 use Rattle.numbering.proofs.starts.up_starts.Tie as tie
@@ -28,10 +29,10 @@ loop-holds : tie.Need-loop-holds Inv-loop μ-loop
 loop-holds c = up-summing-none (c .productions .ensures ∙ told-prods (c .before .before .before .pre .0 .accepted)) (c .before .before .before .pre .0 .accepted .few-prods)
 
 mul-starts : tie.Need-mul-starts Inv-loop μ-loop
-mul-starts c = omega (arith, c .before .loop .inv .sums .few)
+mul-starts c = prod-eight (below (c .loop-test .taken) (c .before .loop .inv .sums .few))
 
 array-write-starts : tie.Need-array-write-starts Inv-loop μ-loop
-array-write-starts c = omega (arith, c .before .loop .inv .sums .few)
+array-write-starts c = below (c .loop-test .taken) (c .before .loop .inv .sums .few)
 
 kid-counts-requires : tie.Need-kid-counts-requires Inv-loop μ-loop
 kid-counts-requires c κs = (c .before .before .before .before .before .pre .0, omega (arith, c .before .loop .inv .all), c .before .before .before .before .before .pre .1)
@@ -43,10 +44,10 @@ add-next : tie.Need-add-next Inv-loop μ-loop
 add-next c = omega (arith, c .before .before .before .loop .inv .sums .small, c .before .before .before .loop .inv .sums .few, c .choices-of .ensures .1)
 
 add-p : tie.Need-add-p Inv-loop μ-loop
-add-p c = omega arith
+add-p c = prod-after (below (c .before .before .loop-test .taken) (c .before .before .before .loop .inv .sums .few))
 
 loop-less : tie.Need-loop-less Inv-loop μ-loop
-loop-less c = omega arith
+loop-less c = less-left (c .before .before .loop-test .taken)
 
 loop-again : tie.Need-loop-again Inv-loop μ-loop
 loop-again c = up-summing-turn (c .before .before .before .loop .inv) (c .before .before .loop-test .taken) (c .before .kid-counts .ensures) (c .choices-of .ensures .0) (c .choices-of .ensures .1)
