@@ -3,6 +3,7 @@ use Prim.Native.Nat.{_+_, _-_, _*_, _^_, _≤_, _<_}
 use native.Mathlib.Omega.{arith}
 use borrow.Author.Needs.{needs}
 use lib.ListN.{length}
+use Rattle.numbering.proofs.Words.{less-left, place-after, place-eight, below}
 use Rattle.numbering.proofs.Trees.{node-at}
 use Rattle.numbering.proofs.DownReads.{DownGoing, going-none, going-children, going-bad, going-turn, going-done}
 use Rattle.numbering.proofs.downward.read_downward.Statement.{statement}
@@ -25,7 +26,7 @@ loop-holds : tie.Need-loop-holds Inv-loop μ-loop
 loop-holds c = going-none (c .before .before .before .before .before .before .pre .1 .few) (c .before .before .before .before .before .before .pre .6) (c .before .before .before .before .before .before .pre .7)
 
 shared-slice-read-p : tie.Need-shared-slice-read-p Inv-loop μ-loop
-shared-slice-read-p c = omega arith
+shared-slice-read-p c = c .before .loop-test .taken
 
 cast-p : tie.Need-cast-p Inv-loop μ-loop
 cast-p c = omega (arith, c .shared-slice-known6 .given (c .before .before .loop .i))
@@ -64,16 +65,16 @@ enum-known-entry : tie.Need-enum-known-entry Inv-loop μ-loop
 enum-known-entry c = search needs
 
 mul-entries : tie.Need-mul-entries Inv-loop μ-loop
-mul-entries c = omega (arith, c .before .before .before .before .before .before .before .loop .inv .few)
+mul-entries c = place-eight (below (c .before .before .before .before .before .before .loop-test .taken) (c .before .before .before .before .before .before .before .loop .inv .few))
 
 element-write-entries : tie.Need-element-write-entries Inv-loop μ-loop
-element-write-entries c = omega (arith, c .before .before .before .before .before .before .before .loop .inv .few)
+element-write-entries c = below (c .before .before .before .before .before .before .loop-test .taken) (c .before .before .before .before .before .before .before .loop .inv .few)
 
 add-i : tie.Need-add-i Inv-loop μ-loop
-add-i c = omega arith
+add-i c = place-after (below (c .before .before .before .before .before .before .loop-test .taken) (c .before .before .before .before .before .before .before .loop .inv .few))
 
 loop-less : tie.Need-loop-less Inv-loop μ-loop
-loop-less c = omega arith
+loop-less c = less-left (c .before .before .before .before .before .before .loop-test .taken)
 
 loop-again : tie.Need-loop-again Inv-loop μ-loop
 loop-again c = going-turn (c .before .before .before .before .before .before .before .loop .inv) (c .before .before .before .before .before .before .loop-test .taken) refl (c .before .before .before .read-node .ensures) (c .before .entry .given .1) refl

@@ -2,6 +2,7 @@ use mathlib.Core.Path.{_≡_, refl, sym, ap, _∙_}
 use Prim.Native.Nat.{_+_, _-_, _*_, _≤_, _<_}
 use native.Mathlib.Omega.{arith}
 use borrow.Author.Needs.{needs}
+use Rattle.numbering.proofs.Words.{wide-below, next-byte, less-left, place-after, place-twice, place-wide}
 use Rattle.numbering.proofs.Children.{end-low, Ranking, ranking-none, ranking-inside, ranking-turn, ranking-done}
 use Rattle.numbering.proofs.kin.kin_of.Statement.{statement}
 use Rattle.numbering.proofs.kin.kin_of.Tie as tie
@@ -15,34 +16,34 @@ abbrev μ-loop : tie.MeasureT-loop
 μ-loop plausible ends i kids ranks₀ at₀ j₀ ranks at j = kids - j
 
 add-at : tie.Need-add-at Inv-loop μ-loop
-add-at c = omega (arith, c .pre .2 .inside)
+add-at c = place-after (c .pre .2 .inside)
 
 loop-holds : tie.Need-loop-holds Inv-loop μ-loop
 loop-holds c = ranking-none _ refl (c .pre .2)
 
 element-copy-out-t12 : tie.Need-element-copy-out-t12 Inv-loop μ-loop
-element-copy-out-t12 c = omega (arith, ranking-inside (c .before .loop .inv) (c .loop-test .taken))
+element-copy-out-t12 c = ranking-inside (c .before .loop .inv) (c .loop-test .taken)
 
 cast-ranks : tie.Need-cast-ranks Inv-loop μ-loop
-cast-ranks c = omega arith
+cast-ranks c = wide-below (c .before .loop-test .taken) (c .before .before .before .fits .kids .fits)
 
 array-set-from-ranks : tie.Need-array-set-from-ranks Inv-loop μ-loop
 array-set-from-ranks c = omega (arith, c .before .before .loop .inv .children .few)
 
 mul-at : tie.Need-mul-at Inv-loop μ-loop
-mul-at c = omega (arith, ranking-inside (c .before .before .loop .inv) (c .before .loop-test .taken))
+mul-at c = place-twice (ranking-inside (c .before .before .loop .inv) (c .before .loop-test .taken))
 
 element-copy-out-at : tie.Need-element-copy-out-at Inv-loop μ-loop
-element-copy-out-at c = omega (arith, ranking-inside (c .before .before .loop .inv) (c .before .loop-test .taken))
+element-copy-out-at c = ranking-inside (c .before .before .loop .inv) (c .before .loop-test .taken)
 
 cast-at : tie.Need-cast-at Inv-loop μ-loop
-cast-at c = omega (arith, end-low (c .before .before .before .loop .inv .children) (c .before .before .loop-test .taken) (c .before .before .before .loop .inv .stands))
+cast-at c = place-wide (end-low (c .before .before .before .loop .inv .children) (c .before .before .loop-test .taken) (c .before .before .before .loop .inv .stands))
 
 add-j : tie.Need-add-j Inv-loop μ-loop
-add-j c = omega arith
+add-j c = next-byte (c .before .before .loop-test .taken) (c .before .before .before .before .fits .kids .fits)
 
 loop-less : tie.Need-loop-less Inv-loop μ-loop
-loop-less c = omega arith
+loop-less c = less-left (c .before .before .loop-test .taken)
 
 loop-again : tie.Need-loop-again Inv-loop μ-loop
 loop-again c = (ranking-turn (c .before .before .before .loop .inv) (c .before .before .loop-test .taken) refl refl)

@@ -5,6 +5,7 @@ use borrow.Author.Needs.{needs}
 use lib.ListN.{length, getD, set}
 use Rattle.chains.specs.Limits.{max-kids, max-settings, max-prods, max-nodes}
 use Rattle.book.specs.Format.{grammar, prods}
+use Rattle.numbering.proofs.Words.{less-left, place-after, place-twice, below}
 use Rattle.numbering.proofs.Trees.{node-at}
 use Rattle.numbering.proofs.Firsts.{Placing, placing-none, placing-turn, placing-done}
 use Rattle.numbering.proofs.numbers.first_places.Statement.{statement}
@@ -23,13 +24,13 @@ loop-holds : tie.Need-loop-holds Inv-loop μ-loop
 loop-holds c = placing-none _ _ (c .before .before .pre .1 .few)
 
 mul-firsts : tie.Need-mul-firsts Inv-loop μ-loop
-mul-firsts c = omega arith
+mul-firsts c = place-twice (below (c .loop-test .taken) (c .before .loop .inv .few))
 
 array-write-firsts : tie.Need-array-write-firsts Inv-loop μ-loop
-array-write-firsts c = omega (arith, c .before .loop .inv .few)
+array-write-firsts c = below (c .loop-test .taken) (c .before .loop .inv .few)
 
 shared-slice-read-own-width : tie.Need-shared-slice-read-own-width Inv-loop μ-loop
-shared-slice-read-own-width c = omega arith
+shared-slice-read-own-width c = c .before .loop-test .taken
 
 own-width-requires : tie.Need-own-width-requires Inv-loop μ-loop
 own-width-requires c κs = (c .before .before .before .before .before .pre .0, node-at (c .before .before .before .before .before .pre .1 .tree-of) (c .before .before .loop .i) (c .before .loop-test .taken) .known)
@@ -41,10 +42,10 @@ add-next : tie.Need-add-next Inv-loop μ-loop
 add-next c = omega (arith, c .own-width .ensures .1, c .before .before .before .loop .inv .small, c .before .before .before .loop .inv .few)
 
 add-i : tie.Need-add-i Inv-loop μ-loop
-add-i c = omega arith
+add-i c = place-after (below (c .before .before .loop-test .taken) (c .before .before .before .loop .inv .few))
 
 loop-less : tie.Need-loop-less Inv-loop μ-loop
-loop-less c = omega arith
+loop-less c = less-left (c .before .before .loop-test .taken)
 
 loop-again : tie.Need-loop-again Inv-loop μ-loop
 loop-again c = placing-turn (c .before .before .before .loop .inv) (c .before .before .loop-test .taken) (c .own-width .ensures .0) (c .own-width .ensures .1)

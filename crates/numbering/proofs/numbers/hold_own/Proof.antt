@@ -4,6 +4,7 @@ use native.Mathlib.Omega.{arith}
 use borrow.Author.Needs.{needs}
 use lib.ListN.{length, getD, set}
 use Rattle.numbering.specs.Giving.{labels-known, Held-own}
+use Rattle.numbering.proofs.Words.{less-left}
 use Rattle.numbering.proofs.Slots.{own-none, own-turn, own-done}
 use Rattle.numbering.proofs.numbers.hold_own.Statement.{statement}
 use Rattle.numbering.proofs.numbers.hold_own.Tie as tie
@@ -40,7 +41,7 @@ add-a : tie.Need-add-a Inv-loop μ-loop
 add-a c = omega arith
 
 loop-less : tie.Need-loop-less Inv-loop μ-loop
-loop-less c = omega arith
+loop-less c = less-left (c .before .before .before .before .before .loop-test .taken)
 
 loop-again : tie.Need-loop-again Inv-loop μ-loop
 loop-again c = (own-turn (c .before .before .before .before .before .before .loop .inv .0) (omega arith) (omega arith) (c .before .before .before .before .label .ensures) refl (c .hold .ensures .0), omega arith, c .hold .ensures .0 .stamps-kept ∙ c .before .before .before .before .before .before .loop .inv .2, c .hold .ensures .0 .numbers-kept ∙ c .before .before .before .before .before .before .loop .inv .3)

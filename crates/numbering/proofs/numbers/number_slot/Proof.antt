@@ -4,6 +4,7 @@ use native.Mathlib.Omega.{arith}
 use borrow.Author.Needs.{needs}
 use lib.ListN.{length, getD, set}
 use Rattle.numbering.specs.Giving.{labels-known, Slot}
+use Rattle.numbering.proofs.Words.{less-left}
 use Rattle.numbering.proofs.Slots.{slot-none, slot-turn, slot-done}
 use Rattle.numbering.proofs.numbers.number_slot.Statement.{statement}
 use Rattle.numbering.proofs.numbers.number_slot.Tie as tie
@@ -58,7 +59,7 @@ add-a : tie.Need-add-a Inv-loop μ-loop
 add-a c = omega arith
 
 loop-less : tie.Need-loop-less Inv-loop μ-loop
-loop-less c = omega arith
+loop-less c = less-left (c .before .before .before .before .before .loop-test .taken)
 
 loop-again : tie.Need-loop-again Inv-loop μ-loop
 loop-again c = (slot-turn (c .before .before .before .before .before .before .loop .inv .0) (omega arith) (omega arith) (omega arith) (c .before .before .before .before .label .ensures) (c .before .hold .ensures .0) (c .before .hold .ensures .1) refl, omega arith, c .before .hold .ensures .0 .stamps-kept ∙ c .before .before .before .before .before .before .loop .inv .2, c .before .hold .ensures .0 .numbers-kept ∙ c .before .before .before .before .before .before .loop .inv .3)

@@ -3,6 +3,7 @@ use Prim.Native.Nat.{_+_, _-_, _*_, _≤_, _<_}
 use native.Mathlib.Omega.{arith}
 use borrow.Author.Needs.{needs}
 use lib.ListN.{length-set}
+use Rattle.numbering.proofs.Words.{less-left, place-after, below}
 use Rattle.numbering.proofs.Rows.{Telling, telling-none, telling-turn, telling-done}
 use Rattle.numbering.proofs.telling.tell.Statement.{statement}
 use Rattle.numbering.proofs.telling.tell.Tie as tie
@@ -20,7 +21,7 @@ loop-holds : tie.Need-loop-holds Inv-loop μ-loop
 loop-holds c = telling-none _ _ _ _ _ (omega arith) (omega arith)
 
 element-copy-out-long : tie.Need-element-copy-out-long Inv-loop μ-loop
-element-copy-out-long c = omega arith
+element-copy-out-long c = below (c .loop-test .taken) (c .before .before .before .pre .0)
 
 long-requires : tie.Need-long-requires Inv-loop μ-loop
 long-requires c κs = tt
@@ -35,7 +36,7 @@ slice-write-nodes : tie.Need-slice-write-nodes Inv-loop μ-loop
 slice-write-nodes c = omega arith
 
 element-copy-out-long-2 : tie.Need-element-copy-out-long-2 Inv-loop μ-loop
-element-copy-out-long-2 c = omega arith
+element-copy-out-long-2 c = below (c .before .before .loop-test .taken) (c .before .before .before .before .before .pre .0)
 
 long-requires-2 : tie.Need-long-requires-2 Inv-loop μ-loop
 long-requires-2 c κs = tt
@@ -71,10 +72,10 @@ slice-write-nodes-3 : tie.Need-slice-write-nodes-3 Inv-loop μ-loop
 slice-write-nodes-3 c = simp length-set (omega arith)
 
 add-i : tie.Need-add-i Inv-loop μ-loop
-add-i c = omega arith
+add-i c = place-after (below (c .before .before .before .before .before .loop-test .taken) (c .before .before .before .before .before .before .before .before .pre .0))
 
 loop-less : tie.Need-loop-less Inv-loop μ-loop
-loop-less c = omega arith
+loop-less c = less-left (c .before .before .before .before .before .loop-test .taken)
 
 loop-again : tie.Need-loop-again Inv-loop μ-loop
 loop-again c = telling-turn (c .before .before .before .before .before .before .loop .inv) (c .before .before .before .before .before .loop-test .taken) (c .before .before .before .long .ensures) (c .before .long2 .ensures) refl
