@@ -10,9 +10,8 @@ use lib.ListN.{length, getD, set, replicate, length-replicate, getD-replicate}
 use borrow.Author.Tests.{lt-ltb, le-ltb}
 use Rattle.lists.specs.Pick.{pick}
 use Rattle.chains.specs.Limits.{max-kids, max-nodes}
-use Rattle.chains.specs.Grammar.{Grammar}
 use Rattle.book.specs.Format.{grammar, kinds, prods, entry, left-at, arity-at}
-use Rattle.book.specs.Reading.{Index, settings-of, kid-at}
+use Rattle.book.specs.Reading.{settings-of, kid-at}
 use Rattle.bookcheck.proofs.Accepted.{Accepted, place-read, settings-read, arity-read, kid-read}
 use Rattle.ranks.specs.declared.Plausible.{Plausible}
 use Rattle.ranks.specs.Reads.{numbers}

@@ -3,7 +3,7 @@ use mathlib.Core.Path.{_≡_, refl, sym, ap, ap₂, subst, _∙_}
 use mathlib.Core.Logic.{_⊎_, inl, inr}
 use mathlib.Core.Bool.{Bool, true, false}
 use mathlib.Core.List.{List, [], _∷_}
-use Prim.Native.Nat.{ℕ, zero, suc, _+_, _-_, _*_, _≤_, _<_}
+use Prim.Native.Nat.{ℕ, suc, _+_, _-_, _*_, _≤_, _<_}
 use native.Mathlib.Nat.{add-assoc}
 use native.Mathlib.Decide.{ℕ-discrete}
 use native.Mathlib.Numerals.{add-one}
@@ -11,30 +11,28 @@ use native.Mathlib.Omega.{arith}
 use lib.ListN.{length, getD, drop, set, length-set}
 use lib.Seq.{getD-take, getD-drop, getD-set-same, getD-set-other}
 use Rattle.chains.specs.Limits.{max-kids, max-nodes}
-use Rattle.chains.specs.Grammar.{Grammar}
-use Rattle.chains.specs.Tree.{Bush, size, Kinded, Root, Sub}
+use Rattle.chains.specs.Tree.{Bush, Kinded, Root, Sub}
 use Rattle.chains.proofs.Range.{root-in}
-use Rattle.chains.proofs.Nodes.{sub-in, parent}
+use Rattle.chains.proofs.Nodes.{parent}
 use Rattle.chains.proofs.WellKinded.{sub-kinded, root-kids, one-tree}
-use Rattle.book.specs.Format.{grammar, prods}
+use Rattle.book.specs.Format.{grammar}
 use Rattle.bookcheck.proofs.Accepted.{Accepted}
 use Rattle.ranks.specs.Entries.{down-start, down-entry, labels, entry-bytes, none}
-use Rattle.ranks.specs.Reads.{Found, found, past, down-number, DownFinds, down-said, child-rank-at}
+use Rattle.ranks.specs.Reads.{found, past, down-number, DownFinds, down-said, child-rank-at}
 use Rattle.ranks.specs.declared.DownRead.{DownRead}
 use Rattle.ranks.specs.declared.DownRead.the-variants as read
-use Rattle.ranks.proofs.Padded.{CountsPadded, RanksPadded, down-number-is}
+use Rattle.ranks.proofs.Padded.{CountsPadded, down-number-is}
 use Rattle.numbering.specs.Walk.{Tables, tables, ranks, given}
 use Rattle.numbering.specs.Promise.{TreeOf, BadDown, entry-at}
-use Rattle.numbering.specs.Visits.{Visit, entry-in, visit}
-use Rattle.numbering.specs.Parts.{Sheeted, child-at, Children, Kindred, Ended, Ranked, HandedIs, HandedDown, RightRank, DownNodeIs, DownNodeRead, NoBadDown, DownIs, DownReads}
+use Rattle.numbering.specs.Visits.{entry-in, visit}
+use Rattle.numbering.specs.Parts.{child-at, Children, Kindred, Ended, Ranked, HandedIs, HandedDown, RightRank, DownNodeIs, DownNodeRead, NoBadDown, DownReads}
 use Rattle.numbering.specs.declared.downward.DownNode.{DownNode}
 use Rattle.numbering.specs.declared.downward.DownNode.the-variants as node
-use Rattle.numbering.specs.declared.upward.Reads.{Reads}
 use Rattle.numbering.specs.declared.upward.Reads.the-variants.{All, Bad}
 use Rattle.numbering.proofs.Children.{Opened}
 use Rattle.numbering.proofs.Journey.{visited, child-visited, entry-visited}
 use Rattle.numbering.proofs.Standing.{stands, child-root, children-of, ended-below, ranked-below, kin-long, kin-padded}
-use Rattle.numbering.proofs.Trees.{tree-size, byte-is, Node, node-at}
+use Rattle.numbering.proofs.Trees.{tree-size, byte-is, node-at}
 
 -- a child's rank is read where the walk has it
 pub rank-read : (T : Tables) (e j : ℕ) → j < max-kids → child-rank-at (T .down) e j ≡ given T e j

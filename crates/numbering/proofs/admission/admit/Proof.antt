@@ -1,5 +1,4 @@
 -- Each exit has its own law.
-use native.Mathlib.Omega.{arith}
 use Rattle.numbering.proofs.Measured.{admitted-by, turned-away, turned-short, turned-later}
 use borrow.Author.Needs.{needs}
 use Rattle.numbering.proofs.admission.admit.Statement.{statement}

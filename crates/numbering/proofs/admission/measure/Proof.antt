@@ -1,7 +1,6 @@
 -- Each exit has its own law.
 use native.Mathlib.Omega.{arith}
 use Rattle.numbering.proofs.Measured.{measured-short, measured-nodes, measured-groups, measured-well}
-use borrow.Author.Needs.{needs}
 use Rattle.numbering.proofs.admission.measure.Statement.{statement}
 use Rattle.numbering.proofs.admission.measure.Tie as tie
 use Rattle.numbering.proofs.admission.measure.Reads as reads

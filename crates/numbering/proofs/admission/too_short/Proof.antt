@@ -1,8 +1,6 @@
 -- Either slice shorter than the number of kinds.
-use mathlib.Core.Path.{_∙_}
 use Rattle.numbering.proofs.Measured.{short-plausible, short-feasible}
 use native.Mathlib.Omega.{arith}
-use borrow.Author.Needs.{needs}
 use Rattle.numbering.proofs.admission.too_short.Statement.{statement}
 use Rattle.numbering.proofs.admission.too_short.Tie as tie
 use Rattle.numbering.proofs.admission.too_short.Reads as reads

@@ -1,7 +1,6 @@
 -- The first of the counts that is over the limit ends the search.
 use Prim.Native.Nat.{_-_}
 use native.Mathlib.Omega.{arith}
-use borrow.Author.Needs.{needs}
 use Rattle.bookcheck.proofs.Answers.{tells-yes}
 use Rattle.numbering.proofs.Counted.{Low, low-none, low-next, low-all}
 use Rattle.numbering.proofs.counts.over.Statement.{statement}

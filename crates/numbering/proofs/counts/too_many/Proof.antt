@@ -1,9 +1,7 @@
 -- First the one slice, then the other.
-use mathlib.Core.Path.{_∙_}
 use native.Mathlib.Omega.{arith}
 use Rattle.bookcheck.proofs.Accepted.{told-kinds}
 use Rattle.numbering.proofs.Counted.{many-plausible, many-feasible}
-use borrow.Author.Needs.{needs}
 use Rattle.numbering.proofs.counts.too_many.Statement.{statement}
 use Rattle.numbering.proofs.counts.too_many.Tie as tie
 use Rattle.numbering.proofs.counts.too_many.Reads as reads

@@ -1,7 +1,6 @@
-use mathlib.Core.Path.{_≡_, refl, sym, ap, _∙_}
-use Prim.Native.Nat.{_+_, _-_, _*_, _≤_, _<_}
+use mathlib.Core.Path.{refl}
+use Prim.Native.Nat.{_-_}
 use native.Mathlib.Omega.{arith}
-use borrow.Author.Needs.{needs}
 use Rattle.numbering.proofs.Words.{wide-below, next-byte, less-left, place-after, place-twice, place-wide}
 use Rattle.numbering.proofs.Children.{end-low, Ranking, ranking-none, ranking-inside, ranking-turn, ranking-done}
 use Rattle.numbering.proofs.kin.kin_of.Statement.{statement}

@@ -1,10 +1,7 @@
-use mathlib.Core.Path.{_≡_, refl, sym, ap, _∙_}
-use Prim.Native.Nat.{_+_, _-_, _*_, _^_, _≤_, _<_}
+use Prim.Native.Nat.{_-_}
 use native.Mathlib.Omega.{arith}
-use borrow.Author.Needs.{needs}
-use lib.ListN.{length, getD, set}
-use Rattle.chains.specs.Limits.{max-kids, max-settings, max-prods, max-nodes}
-use Rattle.book.specs.Format.{grammar, prods}
+use lib.ListN.{length}
+use Rattle.book.specs.Format.{grammar}
 use Rattle.numbering.proofs.Words.{less-left, place-after, place-twice, below}
 use Rattle.numbering.proofs.Trees.{node-at}
 use Rattle.numbering.proofs.Firsts.{Placing, placing-none, placing-turn, placing-done}

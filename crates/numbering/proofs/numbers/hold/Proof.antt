@@ -1,7 +1,5 @@
-use mathlib.Core.Path.{_≡_, refl, sym, ap, _∙_}
-use Prim.Native.Nat.{_+_, _-_, _*_, _≤_, _<_}
+use Prim.Native.Nat.{_-_}
 use native.Mathlib.Omega.{arith}
-use borrow.Author.Needs.{needs}
 use Rattle.numbering.proofs.Holders.{held-again, held-first}
 use Rattle.numbering.proofs.numbers.hold.Statement.{statement}
 use Rattle.numbering.proofs.numbers.hold.Tie as tie

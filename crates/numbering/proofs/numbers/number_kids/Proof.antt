@@ -1,7 +1,6 @@
-use mathlib.Core.Path.{_≡_, refl, sym, ap, _∙_}
-use Prim.Native.Nat.{_+_, _-_, _*_, _^_, _≤_, _<_}
+use mathlib.Core.Path.{refl}
+use Prim.Native.Nat.{_-_}
 use native.Mathlib.Omega.{arith}
-use borrow.Author.Needs.{needs}
 use Rattle.numbering.proofs.Words.{next-byte, less-left, place-after, place-twice, place-wide}
 use Rattle.numbering.proofs.Children.{opened, end-low}
 use Rattle.numbering.proofs.Families.{Naming, naming-none, naming-inside, naming-narrow, naming-fits, naming-low, naming-turn, naming-done}

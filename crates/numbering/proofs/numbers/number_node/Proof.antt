@@ -1,8 +1,6 @@
-use mathlib.Core.Path.{_≡_, refl, sym, ap, _∙_}
-use Prim.Native.Nat.{_+_, _-_, _*_, _^_, _≤_, _<_}
+use mathlib.Core.Path.{refl, _∙_}
+use Prim.Native.Nat.{_-_}
 use native.Mathlib.Omega.{arith}
-use borrow.Author.Needs.{needs}
-use lib.ListN.{getD}
 use Rattle.book.specs.Format.{grammar}
 use Rattle.numbering.proofs.Trees.{settings-inside}
 use Rattle.numbering.proofs.Instances.{instance}

@@ -1,6 +1,5 @@
 use mathlib.Core.Path.{refl}
 use native.Mathlib.Omega.{arith}
-use borrow.Author.Needs.{needs}
 use Rattle.numbering.proofs.Children.{own-width}
 use Rattle.numbering.proofs.Trees.{few-settings}
 use Rattle.numbering.proofs.numbers.own_width.Statement.{statement}

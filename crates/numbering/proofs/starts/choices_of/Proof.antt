@@ -1,8 +1,8 @@
-use mathlib.Core.Path.{_≡_, refl, sym, ap, _∙_}
-use Prim.Native.Nat.{_+_, _-_, _*_, _≤_, _<_}
+use mathlib.Core.Path.{refl}
+use Prim.Native.Nat.{_-_}
 use native.Mathlib.Omega.{arith}
 use borrow.Author.Needs.{needs}
-use Rattle.chains.specs.Limits.{max-kids, max-settings, max-prods, max-nodes}
+use Rattle.chains.specs.Limits.{max-kids}
 use Rattle.numbering.proofs.Products.{Multiplying, multiplying-none, multiplying-turn, multiplying-small, multiplying-done}
 use Rattle.numbering.proofs.starts.choices_of.Statement.{statement}
 use Rattle.numbering.proofs.starts.choices_of.Tie as tie

@@ -1,7 +1,6 @@
-use mathlib.Core.Path.{_≡_, refl, sym, ap, _∙_}
-use Prim.Native.Nat.{_+_, _-_, _*_, _^_, _≤_, _<_}
+use mathlib.Core.Path.{refl, _∙_}
+use Prim.Native.Nat.{_-_}
 use native.Mathlib.Omega.{arith}
-use borrow.Author.Needs.{needs}
 use Rattle.bookcheck.proofs.Accepted.{told-prods}
 use Rattle.numbering.proofs.Children.{left-is, left-low}
 use Rattle.numbering.proofs.Words.{less-left, prod-after, prod-eight, below}
