@@ -10,9 +10,8 @@ use lib.ListN.{length, getD, set, replicate, length-replicate, getD-replicate}
 use borrow.Author.Tests.{lt-ltb, le-ltb}
 use Rattle.lists.specs.Pick.{pick}
 use Rattle.chains.specs.Limits.{max-kids, max-nodes}
-use Rattle.chains.specs.Grammar.{Grammar}
 use Rattle.book.specs.Format.{grammar, kinds, prods, entry, left-at, arity-at}
-use Rattle.book.specs.Reading.{Index, settings-of, kid-at}
+use Rattle.book.specs.Reading.{settings-of, kid-at}
 use Rattle.bookcheck.proofs.Accepted.{Accepted, place-read, settings-read, arity-read, kid-read}
 use Rattle.ranks.specs.declared.Plausible.{Plausible}
 use Rattle.ranks.specs.Reads.{numbers}
@@ -97,6 +96,15 @@ numbers-replicate : (n : ℕ) (r : Plausible) → numbers (replicate n r) ≡ re
 unfolding numbers
 numbers-replicate zero r = refl
 numbers-replicate (suc n) r = ap (λ t. r .0 ∷ t) (numbers-replicate n r)
+
+-- a child's end is within the list
+pub end-low : {ends : List ℕ} {i k j at : ℕ} → Children ends i k → j < k → at ≡ child-at ends i j → getD ends at 0 ≤ max-nodes
+unfolding child-at
+end-low {ends} {i} {k} {j} {at} c l e = omega (arith, ap (λ y. getD ends y 0) e, go (decLt (suc j) k))
+  where
+    go : Dec (suc j < k) → getD ends (child-at ends i j) 0 ≤ max-nodes
+    go (yes y) = let h : getD ends (child-at ends i j) 0 < max-nodes = c .each (suc j) y in omega arith
+    go (no y) = let q : suc j ≡ k = omega arith in subst (λ m. child-at ends i m ≤ max-nodes) (sym q) (c .last)
 
 pub record Ranking (plausible ends : List ℕ) (i kids : ℕ) (ranks : List Plausible) (at j : ℕ) : Type 0 where
   pub children : Children ends i kids

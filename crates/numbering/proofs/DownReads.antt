@@ -3,7 +3,7 @@ use mathlib.Core.Path.{_≡_, refl, sym, ap, ap₂, subst, _∙_}
 use mathlib.Core.Logic.{_⊎_, inl, inr}
 use mathlib.Core.Bool.{Bool, true, false}
 use mathlib.Core.List.{List, [], _∷_}
-use Prim.Native.Nat.{ℕ, zero, suc, _+_, _-_, _*_, _≤_, _<_}
+use Prim.Native.Nat.{ℕ, suc, _+_, _-_, _*_, _≤_, _<_}
 use native.Mathlib.Nat.{add-assoc}
 use native.Mathlib.Decide.{ℕ-discrete}
 use native.Mathlib.Numerals.{add-one}
@@ -11,30 +11,28 @@ use native.Mathlib.Omega.{arith}
 use lib.ListN.{length, getD, drop, set, length-set}
 use lib.Seq.{getD-take, getD-drop, getD-set-same, getD-set-other}
 use Rattle.chains.specs.Limits.{max-kids, max-nodes}
-use Rattle.chains.specs.Grammar.{Grammar}
-use Rattle.chains.specs.Tree.{Bush, size, Kinded, Root, Sub}
+use Rattle.chains.specs.Tree.{Bush, Kinded, Root, Sub}
 use Rattle.chains.proofs.Range.{root-in}
-use Rattle.chains.proofs.Nodes.{sub-in, parent}
+use Rattle.chains.proofs.Nodes.{parent}
 use Rattle.chains.proofs.WellKinded.{sub-kinded, root-kids, one-tree}
-use Rattle.book.specs.Format.{grammar, prods}
+use Rattle.book.specs.Format.{grammar}
 use Rattle.bookcheck.proofs.Accepted.{Accepted}
 use Rattle.ranks.specs.Entries.{down-start, down-entry, labels, entry-bytes, none}
-use Rattle.ranks.specs.Reads.{Found, found, past, down-number, DownFinds, down-said, child-rank-at}
+use Rattle.ranks.specs.Reads.{found, past, down-number, DownFinds, down-said, child-rank-at}
 use Rattle.ranks.specs.declared.DownRead.{DownRead}
 use Rattle.ranks.specs.declared.DownRead.the-variants as read
-use Rattle.ranks.proofs.Padded.{CountsPadded, RanksPadded, down-number-is}
+use Rattle.ranks.proofs.Padded.{CountsPadded, down-number-is}
 use Rattle.numbering.specs.Walk.{Tables, tables, ranks, given}
 use Rattle.numbering.specs.Promise.{TreeOf, BadDown, entry-at}
-use Rattle.numbering.specs.Visits.{Visit, entry-in, visit}
-use Rattle.numbering.specs.Parts.{Sheeted, child-at, Children, Kindred, Ended, Ranked, HandedIs, HandedDown, RightRank, DownNodeIs, DownNodeRead, NoBadDown, DownIs, DownReads}
+use Rattle.numbering.specs.Visits.{entry-in, visit}
+use Rattle.numbering.specs.Parts.{child-at, Children, Kindred, Ended, Ranked, HandedIs, HandedDown, RightRank, DownNodeIs, DownNodeRead, NoBadDown, DownReads}
 use Rattle.numbering.specs.declared.downward.DownNode.{DownNode}
 use Rattle.numbering.specs.declared.downward.DownNode.the-variants as node
-use Rattle.numbering.specs.declared.upward.Reads.{Reads}
 use Rattle.numbering.specs.declared.upward.Reads.the-variants.{All, Bad}
 use Rattle.numbering.proofs.Children.{Opened}
 use Rattle.numbering.proofs.Journey.{visited, child-visited, entry-visited}
 use Rattle.numbering.proofs.Standing.{stands, child-root, children-of, ended-below, ranked-below, kin-long, kin-padded}
-use Rattle.numbering.proofs.Trees.{tree-size, byte-is, Node, node-at}
+use Rattle.numbering.proofs.Trees.{tree-size, byte-is, node-at}
 
 -- a child's rank is read where the walk has it
 pub rank-read : (T : Tables) (e j : ℕ) → j < max-kids → child-rank-at (T .down) e j ≡ given T e j
@@ -45,16 +43,16 @@ rank-read T e j h =
 
 -- ── at a node ──
 -- what a read is asked for; f is the node's own feasible rank
-pub record DownAsked (b l c d w plausible ends : List ℕ) (i p start f : ℕ) (ns rs : List ℕ) : Type 0 where
+pub record DownAsked (b c d w plausible ends : List ℕ) (i p start f : ℕ) (ns rs : List ℕ) : Type 0 where
   pub few : length (grammar b .kids p) ≤ max-kids
   pub counts : CountsPadded max-kids c (grammar b .kids p) ns
   pub end : ℕ
   pub kin : Kindred plausible ends i (length (grammar b .kids p)) rs end
   pub begins : start ≡ down-start (grammar b) c d p
 
-pub down-asked : {b l c d w plausible ends : List ℕ} {i p at kids start f : ℕ} {ns rs : List ℕ} {end : ℕ} → Opened b p at kids
+pub down-asked : {b c d w plausible ends : List ℕ} {i p at kids start f : ℕ} {ns rs : List ℕ} {end : ℕ} → Opened b p at kids
     → CountsPadded max-kids c (grammar b .kids p) ns → Kindred plausible ends i kids rs end → start ≡ down-start (grammar b) c d p
-    → DownAsked b l c d w plausible ends i p start f ns rs
+    → DownAsked b c d w plausible ends i p start f ns rs
 down-asked {plausible = plausible} {ends} {i} {rs = rs} {end} o k r e = record {
   few = omega (arith, o .count, o .few);
   counts = k;
@@ -63,9 +61,9 @@ down-asked {plausible = plausible} {ends} {i} {rs = rs} {end} o k r e = record {
   begins = e;
 }
 
-module _ {b l c d w plausible ends : List ℕ} {i p start f : ℕ} {ns rs : List ℕ} (a : DownAsked b l c d w plausible ends i p start f ns rs) where
+module _ {b c d w plausible ends : List ℕ} {i p start f : ℕ} {ns rs : List ℕ} (a : DownAsked b c d w plausible ends i p start f ns rs) where
   -- the entry asked for is the one that the walk has
-  module _ (t : TreeOf (grammar b) l) (u : List ℕ) (ds : Bush) (s : Sub (t .tree) 0 i p ds) (ended : Ended (t .tree) 0 0 ends)
+  module _ {l : List ℕ} (t : TreeOf (grammar b) l) (u : List ℕ) (ds : Bush) (s : Sub (t .tree) 0 i p ds) (ended : Ended (t .tree) 0 0 ends)
       (ranked : Ranked (grammar b) (tables c d u w) (t .tree) 0 0 plausible) where
     kinded : Kinded (grammar b) ds (grammar b .kids p)
     kinded = sub-kinded (grammar b) (t .tree) (grammar b .start ∷ []) 0 i p ds (t .kinded) s .1
@@ -95,12 +93,12 @@ module _ {b l c d w plausible ends : List ℕ} {i p start f : ℕ} {ns rs : List
         ∙ ap (λ x. given T x j) (sym ee) ∙ sym (rank-read T e j (omega (arith, a .few)))
 
   pub read-past : {r : DownRead} (s : List ℕ) → f ≡ getD s i 0 → DownFinds w (down-number start ns f rs) (down-said r) → r ≡ read.Past
-      → DownNodeRead b l c d w plausible ends i p s s node.Bad
+      → DownNodeRead b c d w plausible ends i p s s node.Bad
   read-past {r} s ef h e =
       let g : DownFinds w (down-number start ns f rs) past = subst (λ x. DownFinds w (down-number start ns f rs) (down-said x)) e h in
       record {
         kept = refl;
-        case = λ t u ds z en ra ri.
+        case = λ l t u ds z en ra ri.
             let q = entry-is t u ds z en ra (ef ∙ ri) in
             let x : length w < (entry-in (grammar b) (tables c d u w) (visit (grammar b) (tables c d u w) (t .tree) i) + 1) * entry-bytes = rw (← q) g in
             inl (rw (add-one (entry-in (grammar b) (tables c d u w) (visit (grammar b) (tables c d u w) (t .tree) i))) at x);
@@ -110,10 +108,10 @@ module _ {b l c d w plausible ends : List ℕ} {i p start f : ℕ} {ns rs : List
     found-entry : DownFinds w (down-number start ns f rs) (found e)
     found-entry = subst (λ x. DownFinds w (down-number start ns f rs) (down-said x)) er h
 
-    pub read-high : {s′ : List ℕ} {o : Bool} → HandedDown b d w e p ends i s s′ o → o ≡ false → DownNodeRead b l c d w plausible ends i p s s′ node.Bad
+    pub read-high : {s′ : List ℕ} {o : Bool} → HandedDown b d w e p ends i s s′ o → o ≡ false → DownNodeRead b c d w plausible ends i p s s′ node.Bad
     read-high {s′} {o} g eo = record {
       kept = g .kept;
-      case = λ t u ds z en ra ri.
+      case = λ l t u ds z en ra ri.
           let T = tables c d u w in
           let q : e ≡ entry-in (grammar b) T (visit (grammar b) T (t .tree) i) = found-entry .1 ∙ entry-is t u ds z en ra (ef ∙ ri) in
           let (j, lj, hj) = subst (HandedIs (grammar b) d w e p ends i s s′) eo (g .case) in
@@ -121,10 +119,10 @@ module _ {b l c d w plausible ends : List ℕ} {i p start f : ℕ} {ns rs : List
           subst (λ x. BadDown (grammar b) T p x) q (inr (j, lj, hj′));
     }
 
-    pub read-good : {s′ : List ℕ} {o : Bool} → HandedDown b d w e p ends i s s′ o → o ≡ true → DownNodeRead b l c d w plausible ends i p s s′ (node.Entry e)
+    pub read-good : {s′ : List ℕ} {o : Bool} → HandedDown b d w e p ends i s s′ o → o ≡ true → DownNodeRead b c d w plausible ends i p s s′ (node.Entry e)
     read-good {s′} {o} g eo = record {
       kept = g .kept;
-      case = λ t u ds z en ra ri.
+      case = λ l t u ds z en ra ri.
           let T = tables c d u w in
           let q : e ≡ entry-in (grammar b) T (visit (grammar b) T (t .tree) i) = found-entry .1 ∙ entry-is t u ds z en ra (ef ∙ ri) in
           let (low, gave) = subst (HandedIs (grammar b) d w e p ends i s s′) eo (g .case) in
@@ -183,14 +181,14 @@ module _ {b l c d w plausible ends s feasible entries : List ℕ} {i : ℕ} (g :
         let en : Ended (n .below) (suc i) 0 ends = ended-below (t₀ .tree) (n .below) i (getD l i 0) 0 ends (n .is-node) (omega arith) en₀ in
         rw e (children-of ends i (n .below) en (grammar b) (grammar b .kids (getD l i 0)) (n .kinded) (acc .lawful .few-kids (getD l i 0) (n .known)) (omega (arith, n .inside, g .few)))
 
-  module _ (more : i < length l) {p : ℕ} (ep : p ≡ getD l i 0) {feasible′ : List ℕ} {r : DownNode} (f : DownNodeRead b l c d w plausible ends i p feasible feasible′ r) where
+  module _ (more : i < length l) {p : ℕ} (ep : p ≡ getD l i 0) {feasible′ : List ℕ} {r : DownNode} (f : DownNodeRead b c d w plausible ends i p feasible feasible′ r) where
     here : (t : TreeOf (grammar b) l) (u : List ℕ) → Ended (t .tree) 0 0 ends → Ranked (grammar b) (tables c d u w) (t .tree) 0 0 plausible
         → RightRank (grammar b) (tables c d u w) (t .tree) s 0 → DownNodeIs (grammar b) (tables c d u w) (t .tree) i (getD l i 0) ends feasible feasible′ r
     here t u en ra ri =
         let n = node-at t i more in
         let (bad, first, below, told) = g .read-so-far t u en ra ri in
-        let f′ : DownNodeRead b l c d w plausible ends i (getD l i 0) feasible feasible′ r = subst (λ q. DownNodeRead b l c d w plausible ends i q feasible feasible′ r) ep f in
-        f′ .case t u (n .below) (n .is-node) en ra (right-rank t u first below i more (omega arith))
+        let f′ : DownNodeRead b c d w plausible ends i (getD l i 0) feasible feasible′ r = subst (λ q. DownNodeRead b c d w plausible ends i q feasible feasible′ r) ep f in
+        f′ .case l t u (n .below) (n .is-node) en ra (right-rank t u first below i more (omega arith))
 
     entry-here : (t : TreeOf (grammar b) l) (u : List ℕ) → entry-at (grammar b) (tables c d u w) (t .tree) i ≡ entry-in (grammar b) (tables c d u w) (visit (grammar b) (tables c d u w) (t .tree) i)
     entry-here t u = entry-visited (grammar b) (tables c d u w) (t .tree) (t .kinded) i (omega (arith, tree-size t))

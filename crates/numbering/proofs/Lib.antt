@@ -27,3 +27,4 @@ pub mod Due
 pub mod Choosing
 pub mod Measured
 pub mod Settled
+pub mod Words

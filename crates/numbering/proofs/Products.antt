@@ -1,13 +1,14 @@
 -- Laws of the starts: the number of choices as a product, and the sums of them.
-use mathlib.Core.Path.{_≡_, refl, sym, ap, ap₂, subst, _∙_}
-use mathlib.Core.List.{List, [], _∷_}
-use Prim.Native.Nat.{ℕ, zero, suc, _+_, _-_, _*_, _^_, _≤_, _<_}
+use mathlib.Core.Path.{_≡_, refl, sym, ap, ap₂, _∙_}
+use mathlib.Core.List.{List}
+use Prim.Native.Nat.{ℕ, suc, _+_, _-_, _*_, _^_, _≤_, _<_}
 use native.Mathlib.Nat.{mul-le-mul, mul-comm, pow-zero, pow-suc, pow-le-pow-right}
 use native.Mathlib.Numerals.{add-one}
 use native.Mathlib.Omega.{arith}
-use lib.ListN.{length, getD, set, replicate, length-replicate, getD-replicate}
+use mir.Syntax.{w8}
+use mir.Val.{Fits}
+use lib.ListN.{getD, set, replicate, length-replicate, getD-replicate}
 use Rattle.chains.specs.Limits.{max-kids, max-prods}
-use Rattle.chains.specs.Grammar.{Grammar}
 use Rattle.book.specs.Format.{grammar, prods}
 use Rattle.ranks.specs.Entries.{choices, up-start, down-start}
 use Rattle.ranks.specs.Reads.{from}
@@ -28,13 +29,13 @@ multiplying-none n cs =
     record { within = omega arith; rest = rw e refl; small = rw e (omega (arith, pow-zero 256)) }
 
 module _ {n : ℕ} {cs : List ℕ} {x j : ℕ} (k : Multiplying n cs x j) where
-  pub multiplying-turn : {v : ℕ} → 0 < j → v ≡ getD cs (j - 1) 0 → v < 256 → Multiplying n cs (v * x) (j - 1)
+  pub multiplying-turn : {v : ℕ} → 0 < j → v ≡ getD cs (j - 1) 0 → Fits w8 v → Multiplying n cs (v * x) (j - 1)
   unfolding choices from
   multiplying-turn {v} h e l =
       let a : n - (j - 1) ≡ suc (n - j) = omega (arith, k .within) in
       let s : suc (j - 1) ≡ j = omega arith in
       let r : x ≡ choices cs (from (suc (j - 1)) (n - j)) = k .rest ∙ ap (λ m. choices cs (from m (n - j))) (sym s) in
-      let b : v * x ≤ 256 * 256 ^ (n - j) = mul-le-mul (omega arith) (k .small) in
+      let b : v * x ≤ 256 * 256 ^ (n - j) = mul-le-mul (omega (arith, l)) (k .small) in
       record {
         within = omega (arith, k .within);
         rest = rw a (ap₂ _*_ e r);
@@ -109,12 +110,12 @@ unfolding down-start
 down-summing-none {b} {c} {d} e h = record { all = e; sums = summing-none (down-start (grammar b) c d) (256 * 256 ^ max-kids) _ (omega arith) refl }
 
 -- a feasible rank before a choice
-pub product-small : {x y m : ℕ} → y < 256 → x ≤ m → y * x ≤ 256 * m
-product-small h k = mul-le-mul (omega arith) k
+pub product-small : {x y m : ℕ} → Fits w8 y → x ≤ m → y * x ≤ 256 * m
+product-small h k = mul-le-mul (omega (arith, h)) k
 
 module _ {b c d : List ℕ} {n : ℕ} {starts : List ℕ} {next p : ℕ} (k : DownSumming b c d n starts next p) where
   pub down-summing-turn : {x y kind : ℕ} {ns : List ℕ} → p < n → CountsPadded max-kids c (grammar b .kids p) ns → x ≡ choices ns (from 0 max-kids) → x ≤ 256 ^ max-kids
-      → kind ≡ grammar b .left p → y ≡ getD d kind 0 → y < 256 → DownSumming b c d n (set starts p next) (next + y * x) (p + 1)
+      → kind ≡ grammar b .left p → y ≡ getD d kind 0 → Fits w8 y → DownSumming b c d n (set starts p next) (next + y * x) (p + 1)
   unfolding down-start
   down-summing-turn {x} {y} h f e l ek ey ly = record {
     all = k .all;

@@ -65,6 +65,7 @@ module _ (ends : List ℕ) (i : ℕ) where
       few = few;
       inside = omega arith;
       each = λ j l. omega (arith, root-in ds (suc i) j (child-at ends i j) (child-root G ks k j l));
+      last = omega (arith, ap (child-at ends i) (sym (kinded-count G ds ks k)) ∙ ends-at);
     }
 
 -- what is known of a tree is known of the forest below a node

@@ -56,6 +56,10 @@ settings-before G (p ∷ l) (suc m) (suc n) h k = let r = settings-before G l m 
 pub settings-inside : (G : Grammar) (l : List ℕ) (m : ℕ) → m < length l → settings-of G (take m l) + G .settings (G .left (getD l m 0)) ≤ settings-of G l
 settings-inside G l m h = rw (take-all (length l) l (omega arith)) at (settings-before G l m (length l) h h)
 
+-- the root's are the first
+pub root-inside : (G : Grammar) (l : List ℕ) {w n : ℕ} → w ≡ G .settings (G .left (getD l 0 0)) → 1 ≤ length l → settings-of G l ≤ n → 0 + w ≤ n
+root-inside G l e h k = omega (arith, e, settings-inside G l 0 h, k)
+
 -- a node of an accepted book has few
 pub few-settings : {b : List ℕ} → Accepted b → (p : ℕ) → p < prods b → grammar b .settings (grammar b .left p) ≤ max-settings
 few-settings {b} a p h = a .lawful .few-settings (grammar b .left p) (a .lawful .left-in p h)

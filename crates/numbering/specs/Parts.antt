@@ -48,11 +48,12 @@ unfoldable pub child-at : List ℕ → ℕ → ℕ → ℕ
 child-at ends i zero = suc i
 child-at ends i (suc j) = getD ends (child-at ends i j) 0
 
--- the first k children of the node i stand within the list
+-- the first k children of the node i stand within the list, and so does the last one's end
 pub record Children (ends : List ℕ) (i k : ℕ) : Type 0 where
   pub few : k ≤ max-kids
   pub inside : i < max-nodes
   pub each : (j : ℕ) → j < k → child-at ends i j < max-nodes
+  pub last : child-at ends i k ≤ max-nodes
 
 -- rs has the ranks of the first k children, then 0; end is where the last of them ends
 pub record Kindred (plausible ends : List ℕ) (i k : ℕ) (rs : List ℕ) (end : ℕ) : Type 0 where
@@ -114,9 +115,9 @@ DownNodeIs G T f i p ends s s′ (down.Entry e) = (e ≡ entry-in G T (visit G T
     × ((j : ℕ) → j < length (G .kids p) → RightRank G T f s′ (child-at ends i j))
 DownNodeIs G T f i p ends s s′ down.Bad = BadDown G T p (entry-in G T (visit G T f i))
 
-pub record DownNodeRead (b l c d w plausible ends : List ℕ) (i p : ℕ) (s s′ : List ℕ) (r : DownNode) : Type 0 where
+pub record DownNodeRead (b c d w plausible ends : List ℕ) (i p : ℕ) (s s′ : List ℕ) (r : DownNode) : Type 0 where
   pub kept : length s′ ≡ length s
-  pub case : (t : TreeOf (grammar b) l) (u : List ℕ) (ds : Bush) → Sub (t .tree) 0 i p ds → Ended (t .tree) 0 0 ends
+  pub case : (l : List ℕ) (t : TreeOf (grammar b) l) (u : List ℕ) (ds : Bush) → Sub (t .tree) 0 i p ds → Ended (t .tree) 0 0 ends
       → Ranked (grammar b) (tables c d u w) (t .tree) 0 0 plausible → RightRank (grammar b) (tables c d u w) (t .tree) s i
       → DownNodeIs (grammar b) (tables c d u w) (t .tree) i p ends s s′ r
 

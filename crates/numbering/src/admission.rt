@@ -8,7 +8,6 @@ ghost use Rattle.lists.specs.Refusals.{accepted};
 ghost use Rattle.sheet.specs.Refusals.{SheetDue};
 ghost use Rattle.numbering.specs.Admitting.{Admits};
 use super::limits::PLACES;
-use super::span;
 use sheet::SheetChecked;
 
 pub enum Admission {
@@ -20,7 +19,7 @@ pub enum Admission {
 fn too_short(book: &[u8], plausible: usize, feasible: usize) -> bool
     ensures { λ r. ⌜ Tells ((plausible < told (now (book .entry)) 1) ⊎ (feasible < told (now (book .entry)) 1)) r ⌝ }
 {
-    let n = span(book::kinds(book));
+    let n = book::kinds(book) as usize;
     if plausible < n {
         return true;
     }
@@ -47,13 +46,13 @@ fn measure(
             place: 0,
         };
     }
-    if nodes < PLACES * span(count) {
+    if nodes < PLACES * count as usize {
         return Admission::Refused {
             number: 24,
             place: 0,
         };
     }
-    if groups < span(settings) {
+    if groups < settings as usize {
         return Admission::Refused {
             number: 24,
             place: 0,

@@ -8,7 +8,6 @@ ghost use Rattle.numbering.specs.Parts.{Indexed, Sheeted, Choice};
 use super::downward::read_downward;
 use super::limits::NODES;
 use super::limits::PRODUCTIONS;
-use super::span;
 use super::upward::Reads;
 use super::upward::read_upward;
 use ranks::Plausible;
@@ -37,7 +36,7 @@ pub fn choose(
         Reads::Bad(i) => Reads::Bad(i),
         Reads::All => {
             let root = ranks::started(Plausible(plausible[0]));
-            let start = span(book::start(book));
+            let start = book::start(book) as usize;
             if feasible_counts[start] <= root.0 {
                 return Reads::Bad(0);
             }

@@ -9,7 +9,6 @@ ghost use Rattle.bookcheck.proofs.Accepted.{Accepted};
 ghost use Rattle.numbering.specs.Walk.{tables};
 ghost use Rattle.numbering.specs.Promise.{BigCount};
 use super::limits::MEMBERS;
-use super::span;
 
 // Whether one of the first n counts is.
 fn over(counts: &[u8], n: usize) -> bool
@@ -31,7 +30,7 @@ pub fn too_many(book: &[u8], plausible_counts: &[u8], feasible_counts: &[u8]) ->
     requires { ⌜ Accepted (now book) × (kinds (now book) ≤ length (now «plausible_counts»)) × (kinds (now book) ≤ length (now «feasible_counts»)) ⌝ }
     ensures { λ r. ⌜ Tells (BigCount (grammar (now (book .entry))) (tables (now («plausible_counts» .entry)) (now («feasible_counts» .entry)) [] [])) r ⌝ }
 {
-    let n = span(book::kinds(book));
+    let n = book::kinds(book) as usize;
     if over(plausible_counts, n) {
         return true;
     }

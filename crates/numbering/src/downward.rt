@@ -11,10 +11,8 @@ use super::kin::kid_counts;
 use super::kin::kin_of;
 use super::limits::NODES;
 use super::limits::PRODUCTIONS;
-use super::span;
 use super::starts::down_starts;
 use super::upward::Reads;
-use super::wide;
 use ranks::DownRead;
 use ranks::Feasible;
 
@@ -45,13 +43,13 @@ fn hand_down(
     let mut child = i + 1;
     let mut j = 0;
     while j < kids {
-        let rank = ranks::child_rank(down, entry, wide(j));
-        let kind = wide(book::kid(book, at, j));
+        let rank = ranks::child_rank(down, entry, j as usize);
+        let kind = book::kid(book, at, j) as usize;
         if counts[kind] <= rank.0 {
             return false;
         }
         feasible[child] = rank.0;
-        child = span(ends[child]);
+        child = ends[child] as usize;
         j += 1;
     }
     true
@@ -61,7 +59,6 @@ fn hand_down(
 fn read_node(
     book: &[u8],
     places: &[usize; PRODUCTIONS],
-    sheet: &[u8],
     counts: &[u8],
     feasible_counts: &[u8],
     down: &[u8],
@@ -76,7 +73,7 @@ fn read_node(
         × (start ≡ down-start (grammar (now book)) (now counts) (now «feasible_counts») p)
         × (length (now plausible) ≡ max-nodes) × (length (now ends) ≡ max-nodes) × (length (now feasible) ≡ max-nodes)
         × Children (now ends) i (length (grammar (now book) .kids p)) ⌝ }
-    ensures { λ r. ⌜ DownNodeRead (now (book .entry)) (now (sheet .entry)) (now (counts .entry)) (now («feasible_counts» .entry)) (now (down .entry))
+    ensures { λ r. ⌜ DownNodeRead (now (book .entry)) (now (counts .entry)) (now («feasible_counts» .entry)) (now (down .entry))
         (now (plausible .entry)) (now (ends .entry)) i p (now (feasible .entry)) (now (feasible .exit)) r ⌝ }
 {
     let at = places[p];
@@ -126,11 +123,10 @@ pub fn read_downward(
     let starts = down_starts(book, places, counts, feasible_counts);
     let mut i = 0;
     while i < sheet.len() {
-        let p = wide(sheet[i]);
+        let p = sheet[i] as usize;
         match read_node(
             book,
             places,
-            sheet,
             counts,
             feasible_counts,
             down,

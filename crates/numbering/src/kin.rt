@@ -10,8 +10,6 @@ ghost use Rattle.ranks.proofs.Padded.{CountsPadded};
 ghost use Rattle.numbering.specs.Parts.{Indexed, Children, Kindred};
 use super::limits::NODES;
 use super::limits::PRODUCTIONS;
-use super::span;
-use super::wide;
 use ranks::KIDS;
 use ranks::Plausible;
 
@@ -31,8 +29,8 @@ pub fn kid_counts(book: &[u8], places: &[usize; PRODUCTIONS], p: usize, counts: 
     let mut out = [1u8; KIDS];
     let mut j = 0;
     while j < kids {
-        let kind = wide(book::kid(book, at, j));
-        out[wide(j)] = counts[kind];
+        let kind = book::kid(book, at, j) as usize;
+        out[j as usize] = counts[kind];
         j += 1;
     }
     out
@@ -48,8 +46,8 @@ pub fn kin_of(plausible: &[u8; NODES], ends: &[u16; NODES], i: usize, kids: u8) 
     let mut at = i + 1;
     let mut j = 0;
     while j < kids {
-        ranks[wide(j)] = Plausible(plausible[at]);
-        at = span(ends[at]);
+        ranks[j as usize] = Plausible(plausible[at]);
+        at = ends[at] as usize;
         j += 1;
     }
     Kin { ranks, end: at }

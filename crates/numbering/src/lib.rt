@@ -10,10 +10,7 @@ mod settling;
 mod starts;
 mod telling;
 mod upward;
-mod writing;
 
-ghost use mathlib.Core.Path.{_≡_};
-ghost use Prim.Native.Nat.{_<_};
 ghost use Rattle.numbering.specs.Walk.{tables};
 ghost use Rattle.numbering.specs.Promise.{lent, CallDue};
 ghost use Rattle.numbering.specs.Answer.{said};
@@ -32,30 +29,6 @@ pub enum Grouping {
         number: u8,
         place: u16,
     },
-}
-
-fn wide(x: u8) -> usize
-    ensures { λ r. ⌜ (r ≡ x) × (r < 256) ⌝ }
-{
-    x as usize
-}
-
-fn word(x: u8) -> u16
-    ensures { λ r. ⌜ (r ≡ x) × (r < 256) ⌝ }
-{
-    x as u16
-}
-
-fn long(x: u8) -> u64
-    ensures { λ r. ⌜ (r ≡ x) × (r < 256) ⌝ }
-{
-    x as u64
-}
-
-fn span(x: u16) -> usize
-    ensures { λ r. ⌜ (r ≡ x) × (r < 65536) ⌝ }
-{
-    x as usize
 }
 
 // Refusals 1 to 9 and 20 to 25; or each node's ranks and down entry, three places a node, and each setting's group number, all by anyone's tables.

@@ -11,9 +11,14 @@ ghost use Rattle.numbering.specs.Giving.{labels-known, Firsts, Held-one,
 use super::limits::LABELS;
 use super::limits::NODES;
 use super::limits::PRODUCTIONS;
-use super::span;
-use super::wide;
-use super::word;
+
+// The number of settings of the left kind of production p.
+fn own_width(book: &[u8], places: &[usize; PRODUCTIONS], p: u8) -> u8
+    requires { ⌜ Indexed (now book) (now places) × (p < prods (now book)) ⌝ }
+    ensures { λ r. ⌜ (r ≡ grammar (now (book .entry)) .settings (grammar (now (book .entry)) .left p)) × (r ≤ max-settings) ⌝ }
+{
+    book::settings(book, book::left(book, places[p as usize]))
+}
 
 // The place of each node's first setting among those of the sheet.
 fn first_places(book: &[u8], places: &[usize; PRODUCTIONS], sheet: &[u8]) -> [u16; NODES]
@@ -25,8 +30,7 @@ fn first_places(book: &[u8], places: &[usize; PRODUCTIONS], sheet: &[u8]) -> [u1
     let mut i = 0;
     while i < sheet.len() {
         firsts[i] = next;
-        let p = wide(sheet[i]);
-        next += word(book::settings(book, book::left(book, places[p])));
+        next += own_width(book, places, sheet[i]) as u16;
         i += 1;
     }
     firsts
@@ -43,7 +47,7 @@ fn hold(
     requires { ⌜ (length (now stamps) ≡ labels-known) × (length (now held) ≡ labels-known) ⌝ }
     ensures { λ r. ⌜ Held-one stamp label number (now (stamps .entry)) (now (held .entry)) (now (stamps .exit)) (now (held .exit)) r × (r ≤ 1) ⌝ }
 {
-    let x = wide(label);
+    let x = label as usize;
     if stamps[x] == stamp {
         return 0;
     }
@@ -56,8 +60,8 @@ fn hold(
 fn hold_own(
     down: &[u8],
     entry: u64,
-    width: usize,
-    at: usize,
+    width: u8,
+    at: u16,
     stamp: u16,
     groups: &[u16],
     stamps: &mut [u16; LABELS],
@@ -67,10 +71,10 @@ fn hold_own(
     ensures { λ r. ⌜ Held-own (now (down .entry)) entry width at stamp (now (groups .entry)) (now (stamps .entry)) (now (held .entry)) (now (stamps .exit)) (now (held .exit)) ⌝ }
 {
     let mut a = 0;
-    while a < width {
+    while a < width as usize {
         hold(
             ranks::label(down, entry, a),
-            groups[at + a],
+            groups[at as usize + a],
             stamp,
             stamps,
             held,
@@ -83,9 +87,9 @@ fn hold_own(
 fn number_slot(
     down: &[u8],
     entry: u64,
-    slot: usize,
-    width: usize,
-    at: usize,
+    slot: u8,
+    width: u8,
+    at: u16,
     stamp: u16,
     first: u16,
     stamps: &mut [u16; LABELS],
@@ -99,10 +103,10 @@ fn number_slot(
 {
     let mut next = first;
     let mut a = 0;
-    while a < width {
-        let label = ranks::label(down, entry, slot * 8 + a);
+    while a < width as usize {
+        let label = ranks::label(down, entry, slot as usize * 8 + a);
         let fresh = hold(label, next, stamp, stamps, held);
-        groups[at + a] = held[wide(label)];
+        groups[at as usize + a] = held[label as usize];
         next += fresh;
         a += 1;
     }
@@ -114,7 +118,7 @@ fn number_kids(
     book: &[u8],
     places: &[usize; PRODUCTIONS],
     sheet: &[u8],
-    p: usize,
+    p: u8,
     down: &[u8],
     entry: u64,
     ends: &[u16; NODES],
@@ -133,26 +137,25 @@ fn number_kids(
     ensures { λ r. ⌜ Family (grammar (now (book .entry))) (now (sheet .entry)) (now (down .entry)) entry p (now (ends .entry)) i stamp first
         (now (stamps .entry)) (now (held .entry)) (now (groups .entry)) (now (stamps .exit)) (now (held .exit)) (now (groups .exit)) r ⌝ }
 {
-    let place = places[p];
+    let place = places[p as usize];
     let kids = book::arity(book, place);
     let mut next = first;
     let mut child = i + 1;
     let mut j = 0;
     while j < kids {
-        let width = wide(book::settings(book, book::kid(book, place, j)));
         next = number_slot(
             down,
             entry,
-            wide(j) + 1,
-            width,
-            span(firsts[child]),
+            j + 1,
+            book::settings(book, book::kid(book, place, j)),
+            firsts[child],
             stamp,
             next,
             stamps,
             held,
             groups,
         );
-        child = span(ends[child]);
+        child = ends[child] as usize;
         j += 1;
     }
     next
@@ -180,14 +183,13 @@ fn number_node(
     ensures { λ r. ⌜ Instance (grammar (now (book .entry))) (now (sheet .entry)) (now (down .entry)) entry (now (ends .entry)) i first
         (now (stamps .entry)) (now (held .entry)) (now (groups .entry)) (now (stamps .exit)) (now (held .exit)) (now (groups .exit)) r ⌝ }
 {
-    let p = wide(sheet[i]);
-    let width = wide(book::settings(book, book::left(book, places[p])));
+    let p = sheet[i];
     let stamp = i as u16 + 2;
     hold_own(
         down,
         entry,
-        width,
-        span(firsts[i]),
+        own_width(book, places, p),
+        firsts[i],
         stamp,
         groups,
         stamps,
@@ -228,12 +230,11 @@ pub fn number_all(
     let firsts = first_places(book, places, sheet);
     let mut stamps = [0u16; LABELS];
     let mut held = [0u16; LABELS];
-    let width = wide(book::settings(book, book::left(book, places[wide(sheet[0])])));
     let mut next = number_slot(
         down,
         entries[0],
         0,
-        width,
+        own_width(book, places, sheet[0]),
         0,
         1,
         0,

@@ -1,8 +1,6 @@
 // A sheet that fits its book and its room: 25, and then what is written.
 ghost use mathlib.Core.Path.{_≡_};
-ghost use mathlib.Core.List.{[], _∷_};
 ghost use lib.ListN.{length};
-ghost use Rattle.lists.specs.Refusals.{accepted, refused};
 ghost use Rattle.book.specs.Format.{grammar};
 ghost use Rattle.sheet.specs.Reading.{settings-of};
 ghost use Rattle.numbering.specs.Walk.{tables};
@@ -13,24 +11,9 @@ use super::Grouping;
 use super::choice::choose;
 use super::counts::too_many;
 use super::limits::NODES;
+use super::numbers::number_all;
+use super::telling::tell;
 use super::upward::Reads;
-use super::writing::fill;
-
-fn refused(place: u16) -> Grouping
-    ensures { λ r. ⌜ said r ≡ refused 25 place ⌝ }
-{
-    Grouping::Refused { number: 25, place }
-}
-
-fn accepted(nodes: u16, settings: u16, groups: u16) -> Grouping
-    ensures { λ r. ⌜ said r ≡ accepted (nodes ∷ settings ∷ groups ∷ []) ⌝ }
-{
-    Grouping::Accepted {
-        nodes,
-        settings,
-        groups,
-    }
-}
 
 // Ranks and entries stand in arrays of its own until every read has been good; only then is the lent memory written.
 pub fn settle(
@@ -51,7 +34,10 @@ pub fn settle(
         (lent (now (nodes .entry)) (now (groups .entry))) (said r) (lent (now (nodes .exit)) (now (groups .exit))) ⌝ }
 {
     if too_many(book, plausible_counts, feasible_counts) {
-        return refused(0);
+        return Grouping::Refused {
+            number: 25,
+            place: 0,
+        };
     }
     let places = book::index(book);
     let mut plausible = [0u8; NODES];
@@ -71,21 +57,15 @@ pub fn settle(
         &mut feasible,
         &mut entries,
     ) {
-        Reads::Bad(place) => refused(place),
+        Reads::Bad(place) => Grouping::Refused { number: 25, place },
         Reads::All => {
-            let used = fill(
-                book,
-                &places,
-                sheet,
-                down,
-                &plausible,
-                &ends,
-                &feasible,
-                &entries,
-                nodes,
-                groups,
-            );
-            accepted(count, settings, used)
+            tell(sheet.len(), &plausible, &feasible, &entries, nodes);
+            let used = number_all(book, &places, sheet, down, &ends, &entries, groups);
+            Grouping::Accepted {
+                nodes: count,
+                settings,
+                groups: used,
+            }
         }
     }
 }

@@ -9,9 +9,6 @@ ghost use Rattle.ranks.specs.Reads as reads;
 ghost use Rattle.numbering.specs.Parts.{Indexed, UpStarts, DownStarts};
 use super::kin::kid_counts;
 use super::limits::PRODUCTIONS;
-use super::long;
-use super::span;
-use super::wide;
 use ranks::KIDS;
 
 // The number of choices for children of these counts.
@@ -22,7 +19,7 @@ fn choices_of(counts: [u8; KIDS]) -> u64
     let mut j = KIDS;
     while 0 < j {
         j -= 1;
-        product = long(counts[j]) * product;
+        product = counts[j] as u64 * product;
     }
     product
 }
@@ -31,7 +28,7 @@ pub fn up_starts(book: &[u8], places: &[usize; PRODUCTIONS], counts: &[u8]) -> [
     requires { ⌜ Indexed (now book) (now places) × (kinds (now book) ≤ length (now counts)) ⌝ }
     ensures { λ r. ⌜ UpStarts (now (book .entry)) (now (counts .entry)) r ⌝ }
 {
-    let n = span(book::productions(book));
+    let n = book::productions(book) as usize;
     let mut starts = [0u64; PRODUCTIONS];
     let mut next: u64 = 0;
     let mut p = 0;
@@ -52,14 +49,14 @@ pub fn down_starts(
     requires { ⌜ Indexed (now book) (now places) × (kinds (now book) ≤ length (now counts)) × (kinds (now book) ≤ length (now «feasible_counts»)) ⌝ }
     ensures { λ r. ⌜ DownStarts (now (book .entry)) (now (counts .entry)) (now («feasible_counts» .entry)) r ⌝ }
 {
-    let n = span(book::productions(book));
+    let n = book::productions(book) as usize;
     let mut starts = [0u64; PRODUCTIONS];
     let mut next: u64 = 0;
     let mut p = 0;
     while p < n {
         starts[p] = next;
-        let left = wide(book::left(book, places[p]));
-        next += long(feasible_counts[left]) * choices_of(kid_counts(book, places, p, counts));
+        let left = book::left(book, places[p]) as usize;
+        next += feasible_counts[left] as u64 * choices_of(kid_counts(book, places, p, counts));
         p += 1;
     }
     starts

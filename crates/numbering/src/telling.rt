@@ -6,7 +6,12 @@ ghost use lib.ListN.{length, drop};
 ghost use Rattle.chains.specs.Limits.{max-nodes};
 ghost use Rattle.numbering.specs.Giving.{rows};
 use super::limits::NODES;
-use super::long;
+
+fn long(x: u8) -> u64
+    ensures { λ r. ⌜ r ≡ x ⌝ }
+{
+    x as u64
+}
 
 pub fn tell(
     n: usize,

@@ -11,7 +11,6 @@ use super::kin::kin_of;
 use super::limits::NODES;
 use super::limits::PRODUCTIONS;
 use super::starts::up_starts;
-use super::wide;
 use ranks::Plausible;
 use ranks::UpRead;
 
@@ -50,7 +49,7 @@ fn read_node(
     match ranks::read_up(up, start, kid_counts(book, places, p, counts), ranks) {
         UpRead::Past => UpNode::Bad,
         UpRead::Rank(rank) => {
-            let left = wide(book::left(book, at));
+            let left = book::left(book, at) as usize;
             if counts[left] <= rank.0 {
                 return UpNode::Bad;
             }
@@ -77,7 +76,7 @@ pub fn read_upward(
     let mut i = sheet.len();
     while 0 < i {
         i -= 1;
-        let p = wide(sheet[i]);
+        let p = sheet[i] as usize;
         match read_node(book, places, counts, up, starts[p], p, plausible, ends, i) {
             UpNode::Bad => {
                 return Reads::Bad(i as u16);

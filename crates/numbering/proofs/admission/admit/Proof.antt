@@ -1,5 +1,4 @@
 -- Each exit has its own law.
-use native.Mathlib.Omega.{arith}
 use Rattle.numbering.proofs.Measured.{admitted-by, turned-away, turned-short, turned-later}
 use borrow.Author.Needs.{needs}
 use Rattle.numbering.proofs.admission.admit.Statement.{statement}
@@ -11,7 +10,7 @@ use Rattle.numbering.proofs.admission.too_short.Reads as too-short-read
 use Rattle.sheet.proofs.check_sheet.Reads as check-sheet-reads
 
 check-sheet-requires : tie.Need-check-sheet-requires
-check-sheet-requires c κs = search needs
+check-sheet-requires c κs = tt
 
 enum-known-count : tie.Need-enum-known-count
 enum-known-count c = search needs
@@ -26,7 +25,7 @@ returns : tie.Need-returns
 returns c = turned-away _ _ (c .before .before .before .before .check-sheet .ensures) _ _ _ _ (c .before .before .number .given .1) (c .if1 .taken)
 
 too-short-requires : tie.Need-too-short-requires
-too-short-requires c κs = search needs
+too-short-requires c κs = tt
 
 returns-2 : tie.Need-returns-2
 returns-2 c = turned-short _ _ (c .before .before .before .before .before .before .check-sheet .ensures) _ _ _ _ (c .before .before .before .before .number .given .1) (c .before .before .if1 .left) (c .before .too-short .ensures) (c .if2 .taken)

@@ -1,47 +1,31 @@
 -- Each exit has its own law.
 use native.Mathlib.Omega.{arith}
 use Rattle.numbering.proofs.Measured.{measured-short, measured-nodes, measured-groups, measured-well}
-use borrow.Author.Needs.{needs}
 use Rattle.numbering.proofs.admission.measure.Statement.{statement}
 use Rattle.numbering.proofs.admission.measure.Tie as tie
 use Rattle.numbering.proofs.admission.measure.Reads as reads
 use Rattle.numbering.proofs.admission.measure.Lts as lts
 use Rattle.numbering.proofs.admission.too_short.Reads as too-short-reads
-use Rattle.numbering.proofs.span.Reads as span-reads
 
 too-short-requires : tie.Need-too-short-requires
-too-short-requires c κs = search needs
+too-short-requires c κs = tt
 
 returns : tie.Need-returns
 returns c = measured-short (c .before .before .before .before .pre) _ _ _ _ (c .before .too-short .ensures) (c .if1 .taken)
 
-span-requires : tie.Need-span-requires
-span-requires c κs = search needs
-
 mul-if2 : tie.Need-mul-if2
-mul-if2 c = search needs
+mul-if2 c = omega arith
 
 returns-2 : tie.Need-returns-2
-returns-2 c = measured-nodes (c .before .before .before .before .before .before .pre) _ _ _ _ (c .before .before .before .too-short .ensures) (c .before .before .if1 .left) (omega (arith, c .before .span .ensures .0, c .if2 .taken))
-
-span-requires-2 : tie.Need-span-requires-2
-span-requires-2 c κs = search needs
+returns-2 c = measured-nodes (c .before .before .before .before .before .pre) _ _ _ _ (c .before .before .too-short .ensures) (c .before .if1 .left) (omega (arith, c .if2 .taken))
 
 returns-3 : tie.Need-returns-3
-returns-3 c = measured-groups (c .before .before .before .before .before .before .before .before .pre) _ _ _ _ (c .before .before .before .before .before .too-short .ensures) (c .before .before .before .before .if1 .left) (omega (arith, c .before .span2 .ensures .0, c .if3 .taken))
+returns-3 c = measured-groups (c .before .before .before .before .before .before .pre) _ _ _ _ (c .before .before .before .too-short .ensures) (c .before .before .if1 .left) (omega (arith, c .if3 .taken))
 
 returns-4 : tie.Need-returns-4
-returns-4 c = measured-well (c .before .before .before .before .before .before .before .before .pre) _ _ _ _ (c .before .before .before .before .before .too-short .ensures) (c .before .before .before .before .if1 .left) (omega (arith, c .before .before .before .span .ensures .0, c .before .before .if2 .left)) (omega (arith, c .before .span2 .ensures .0, c .if3 .left))
+returns-4 c = measured-well (c .before .before .before .before .before .before .pre) _ _ _ _ (c .before .before .before .too-short .ensures) (c .before .before .if1 .left) (omega (arith, c .before .if2 .left)) (omega (arith, c .if3 .left))
 
 pub measure-spec : {M : Type 1} → statement M
 measure-spec =
     tie.close
-    (tie.spec
-    too-short-requires
-    returns
-    span-requires
-    mul-if2
-    returns-2
-    span-requires-2
-    returns-3
-    returns-4)
+    (tie.spec too-short-requires returns mul-if2 returns-2 returns-3 returns-4)

@@ -1,25 +1,23 @@
 -- Either slice shorter than the number of kinds.
-use mathlib.Core.Path.{_∙_}
 use Rattle.numbering.proofs.Measured.{short-plausible, short-feasible}
-use borrow.Author.Needs.{needs}
+use native.Mathlib.Omega.{arith}
 use Rattle.numbering.proofs.admission.too_short.Statement.{statement}
 use Rattle.numbering.proofs.admission.too_short.Tie as tie
 use Rattle.numbering.proofs.admission.too_short.Reads as reads
 use Rattle.numbering.proofs.admission.too_short.Lts as lts
 use Rattle.book.proofs.kinds.Reads as kinds-reads
-use Rattle.numbering.proofs.span.Reads as span-reads
 
 kinds-requires : tie.Need-kinds-requires
-kinds-requires c κs = search needs
+kinds-requires c κs = tt
 
-span-requires : tie.Need-span-requires
-span-requires c κs = search needs
+cast-n : tie.Need-cast-n
+cast-n c = omega arith
 
 returns : tie.Need-returns
-returns c = short-plausible (c .before .before .before .before .args .book .now) (c .before .span .ensures .0 ∙ c .before .before .kinds .ensures) (c .if1 .taken)
+returns c = short-plausible (c .before .before .before .args .book .now) (c .before .kinds .ensures) (c .if1 .taken)
 
 returns-2 : tie.Need-returns-2
-returns-2 c = short-feasible (c .before .before .before .before .args .book .now) (c .before .span .ensures .0 ∙ c .before .before .kinds .ensures) (c .if1 .left)
+returns-2 c = short-feasible (c .before .before .before .args .book .now) (c .before .kinds .ensures) (c .if1 .left)
 
 pub too-short-spec : {M : Type 1} → statement M
-too-short-spec = tie.close (tie.spec kinds-requires span-requires returns returns-2)
+too-short-spec = tie.close (tie.spec kinds-requires cast-n returns returns-2)

@@ -1,7 +1,6 @@
 -- The first of the counts that is over the limit ends the search.
 use Prim.Native.Nat.{_-_}
 use native.Mathlib.Omega.{arith}
-use borrow.Author.Needs.{needs}
 use Rattle.bookcheck.proofs.Answers.{tells-yes}
 use Rattle.numbering.proofs.Counted.{Low, low-none, low-next, low-all}
 use Rattle.numbering.proofs.counts.over.Statement.{statement}
@@ -19,16 +18,16 @@ loop-holds : tie.Need-loop-holds Inv-loop μ-loop
 loop-holds c = low-none
 
 shared-slice-read-if1 : tie.Need-shared-slice-read-if1 Inv-loop μ-loop
-shared-slice-read-if1 c = search needs
+shared-slice-read-if1 c = omega arith
 
 returns : tie.Need-returns Inv-loop μ-loop
 returns c = tells-yes (c .before .before .before .loop .k, c .before .before .loop-test .taken, c .if1 .taken)
 
 add-k : tie.Need-add-k Inv-loop μ-loop
-add-k c = search needs
+add-k c = omega arith
 
 loop-less : tie.Need-loop-less Inv-loop μ-loop
-loop-less c = search needs
+loop-less c = omega arith
 
 loop-again : tie.Need-loop-again Inv-loop μ-loop
 loop-again c = low-next (c .before .before .before .loop .inv) (c .if1 .left)

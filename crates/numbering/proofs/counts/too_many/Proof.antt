@@ -1,36 +1,33 @@
 -- First the one slice, then the other.
-use mathlib.Core.Path.{_∙_}
 use native.Mathlib.Omega.{arith}
 use Rattle.bookcheck.proofs.Accepted.{told-kinds}
 use Rattle.numbering.proofs.Counted.{many-plausible, many-feasible}
-use borrow.Author.Needs.{needs}
 use Rattle.numbering.proofs.counts.too_many.Statement.{statement}
 use Rattle.numbering.proofs.counts.too_many.Tie as tie
 use Rattle.numbering.proofs.counts.too_many.Reads as reads
 use Rattle.numbering.proofs.counts.too_many.Lts as lts
 use Rattle.book.proofs.kinds.Reads as kinds-reads
 use Rattle.numbering.proofs.counts.over.Reads as over-reads
-use Rattle.numbering.proofs.span.Reads as span-reads
 
 kinds-requires : tie.Need-kinds-requires
-kinds-requires c κs = search needs
+kinds-requires c κs = tt
 
-span-requires : tie.Need-span-requires
-span-requires c κs = search needs
+cast-n : tie.Need-cast-n
+cast-n c = omega arith
 
 over-requires : tie.Need-over-requires
-over-requires c κs = omega (arith, c .span .ensures .0, c .before .kinds .ensures, told-kinds (c .before .before .before .before .before .pre .0), c .before .before .before .before .before .pre .1)
+over-requires c κs = omega (arith, c .kinds .ensures, told-kinds (c .before .before .before .before .pre .0), c .before .before .before .before .pre .1)
 
 returns : tie.Need-returns
-returns c = many-plausible (c .before .before .before .before .before .before .before .pre .0) (c .before .before .span .ensures .0 ∙ c .before .before .before .kinds .ensures) (c .before .before .before .before .before .before .before .args .plausible-counts .now) (c .before .before .before .before .before .before .before .args .feasible-counts .now) (c .before .over .ensures) (c .if1 .taken)
+returns c = many-plausible (c .before .before .before .before .before .before .pre .0) (c .before .before .kinds .ensures) (c .before .before .before .before .before .before .args .plausible-counts .now) (c .before .before .before .before .before .before .args .feasible-counts .now) (c .before .over .ensures) (c .if1 .taken)
 
 over-requires-2 : tie.Need-over-requires-2
-over-requires-2 c κs = omega (arith, c .before .before .span .ensures .0, c .before .before .before .kinds .ensures, told-kinds (c .before .before .before .before .before .before .before .pre .0), c .before .before .before .before .before .before .before .pre .2)
+over-requires-2 c κs = omega (arith, c .before .before .kinds .ensures, told-kinds (c .before .before .before .before .before .before .pre .0), c .before .before .before .before .before .before .pre .2)
 
 returns-2 : tie.Need-returns-2
-returns-2 c = many-feasible (c .before .before .before .before .before .before .before .before .pre .0) (c .before .before .before .span .ensures .0 ∙ c .before .before .before .before .kinds .ensures) (c .before .before .before .before .before .before .before .before .args .plausible-counts .now) (c .before .before .before .before .before .before .before .before .args .feasible-counts .now) (c .before .before .over .ensures) (c .before .if1 .left) (c .over2 .ensures)
+returns-2 c = many-feasible (c .before .before .before .before .before .before .before .pre .0) (c .before .before .before .kinds .ensures) (c .before .before .before .before .before .before .before .args .plausible-counts .now) (c .before .before .before .before .before .before .before .args .feasible-counts .now) (c .before .before .over .ensures) (c .before .if1 .left) (c .over2 .ensures)
 
 pub too-many-spec : {M : Type 1} → statement M
 too-many-spec =
     tie.close
-    (tie.spec kinds-requires span-requires over-requires returns over-requires-2 returns-2)
+    (tie.spec kinds-requires cast-n over-requires returns over-requires-2 returns-2)

@@ -1,8 +1,8 @@
-use mathlib.Core.Path.{_≡_, refl, sym, ap, _∙_}
-use Prim.Native.Nat.{_+_, _-_, _*_, _≤_, _<_}
+use mathlib.Core.Path.{refl}
+use Prim.Native.Nat.{_-_}
 use native.Mathlib.Omega.{arith}
-use borrow.Author.Needs.{needs}
-use Rattle.numbering.proofs.Children.{opened, kid-low}
+use Rattle.numbering.proofs.Words.{wide, wide-below, next-byte, less-left, place-after, place-twice, place-wide}
+use Rattle.numbering.proofs.Children.{opened, kid-low, end-low}
 use Rattle.numbering.proofs.Handing.{Handing, handing-none, handing-inside, handing-turn, handing-bad, handing-done}
 use Rattle.numbering.proofs.downward.hand_down.Statement.{statement}
 use Rattle.numbering.proofs.downward.hand_down.Tie as tie
@@ -10,8 +10,6 @@ use Rattle.numbering.proofs.downward.hand_down.Reads as reads
 use Rattle.numbering.proofs.downward.hand_down.Lts as lts
 use Rattle.book.proofs.arity.Reads as arity-reads
 use Rattle.book.proofs.kid.Reads as kid-reads
-use Rattle.numbering.proofs.span.Reads as span-reads
-use Rattle.numbering.proofs.wide.Reads as wide-reads
 use Rattle.ranks.proofs.child_rank.Reads as child-rank-reads
 
 abbrev Inv-loop : tie.InvT-loop
@@ -21,58 +19,58 @@ abbrev μ-loop : tie.MeasureT-loop
 μ-loop book places p counts down entry ends i feasible₀ at kids child₀ j₀ feasible child j = kids - j
 
 mul-at : tie.Need-mul-at Inv-loop μ-loop
-mul-at c = search needs
+mul-at c = omega arith
 
 element-copy-out-at : tie.Need-element-copy-out-at Inv-loop μ-loop
 element-copy-out-at c = omega (arith, c .before .before .before .pre .0 .accepted .few-prods)
 
 arity-requires : tie.Need-arity-requires Inv-loop μ-loop
-arity-requires c κs = search needs
+arity-requires c κs = tt
 
 add-child : tie.Need-add-child Inv-loop μ-loop
-add-child c = search needs
+add-child c = place-after (c .before .before .before .before .before .pre .5 .inside)
 
 loop-holds : tie.Need-loop-holds Inv-loop μ-loop
 loop-holds c = handing-none _ (opened (c .before .before .before .before .before .pre .0) (c .before .before .before .before .before .pre .1) refl (c .arity .ensures)) (c .before .before .before .before .before .pre .5) (c .before .before .before .before .before .pre .3)
 
-wide-requires : tie.Need-wide-requires Inv-loop μ-loop
-wide-requires c κs = search needs
+cast-child-rank : tie.Need-cast-child-rank Inv-loop μ-loop
+cast-child-rank c = wide-below (c .loop-test .taken) (c .before .before .arity .ok)
 
 child-rank-requires : tie.Need-child-rank-requires Inv-loop μ-loop
-child-rank-requires c κs = search needs
+child-rank-requires c κs = tt
 
 kid-requires : tie.Need-kid-requires Inv-loop μ-loop
-kid-requires c κs = search needs
+kid-requires c κs = tt
 
-wide-requires-2 : tie.Need-wide-requires-2 Inv-loop μ-loop
-wide-requires-2 c κs = search needs
+cast-kind : tie.Need-cast-kind Inv-loop μ-loop
+cast-kind c = wide (c .kid .ok)
 
 shared-slice-read-if1 : tie.Need-shared-slice-read-if1 Inv-loop μ-loop
-shared-slice-read-if1 c = omega (arith, kid-low (c .before .before .before .before .before .before .loop .inv .opened) _ (c .before .before .before .before .before .loop-test .taken) (c .before .before .kid .ensures), c .before .before .before .before .before .before .before .before .before .before .before .before .pre .2)
+shared-slice-read-if1 c = omega (arith, kid-low (c .before .before .before .before .loop .inv .opened) _ (c .before .before .before .loop-test .taken) (c .before .kid .ensures), c .before .before .before .before .before .before .before .before .before .before .pre .2)
 
 returns : tie.Need-returns Inv-loop μ-loop
-returns c = handing-bad (c .before .before .before .before .before .before .before .before .loop .inv) (c .before .before .before .before .before .before .before .loop-test .taken) (c .before .before .before .wide2 .ensures .0 ∙ c .before .before .before .before .kid .ensures) (c .before .before .before .before .before .child-rank .ensures ∙ rw (c .before .before .before .before .before .before .wide .ensures .0)) (c .if1 .taken)
+returns c = handing-bad (c .before .before .before .before .before .before .loop .inv) (c .before .before .before .before .before .loop-test .taken) (c .before .before .before .kid .ensures) (c .before .before .before .before .child-rank .ensures) (c .if1 .taken)
 
 element-write-feasible : tie.Need-element-write-feasible Inv-loop μ-loop
-element-write-feasible c = omega (arith, handing-inside (c .before .before .before .before .before .before .before .before .loop .inv) (c .before .before .before .before .before .before .before .loop-test .taken))
+element-write-feasible c = handing-inside (c .before .before .before .before .before .before .loop .inv) (c .before .before .before .before .before .loop-test .taken)
 
-mul-span : tie.Need-mul-span Inv-loop μ-loop
-mul-span c = omega (arith, handing-inside (c .before .before .before .before .before .before .before .before .loop .inv) (c .before .before .before .before .before .before .before .loop-test .taken))
+mul-child : tie.Need-mul-child Inv-loop μ-loop
+mul-child c = place-twice (handing-inside (c .before .before .before .before .before .before .loop .inv) (c .before .before .before .before .before .loop-test .taken))
 
-element-copy-out-span : tie.Need-element-copy-out-span Inv-loop μ-loop
-element-copy-out-span c = omega (arith, handing-inside (c .before .before .before .before .before .before .before .before .loop .inv) (c .before .before .before .before .before .before .before .loop-test .taken))
+element-copy-out-child : tie.Need-element-copy-out-child Inv-loop μ-loop
+element-copy-out-child c = handing-inside (c .before .before .before .before .before .before .loop .inv) (c .before .before .before .before .before .loop-test .taken)
 
-span-requires : tie.Need-span-requires Inv-loop μ-loop
-span-requires c κs = search needs
+cast-child : tie.Need-cast-child Inv-loop μ-loop
+cast-child c = place-wide (end-low (c .before .before .before .before .before .before .before .loop .inv .children) (c .before .before .before .before .before .before .loop-test .taken) (c .before .before .before .before .before .before .before .loop .inv .stands))
 
 add-j : tie.Need-add-j Inv-loop μ-loop
-add-j c = search needs
+add-j c = next-byte (c .before .before .before .before .before .before .loop-test .taken) (c .before .before .before .before .before .before .before .before .arity .ok)
 
 loop-less : tie.Need-loop-less Inv-loop μ-loop
-loop-less c = search needs
+loop-less c = less-left (c .before .before .before .before .before .before .loop-test .taken)
 
 loop-again : tie.Need-loop-again Inv-loop μ-loop
-loop-again c = handing-turn (c .before .before .before .before .before .before .before .before .before .before .loop .inv) (c .before .before .before .before .before .before .before .before .before .loop-test .taken) (c .before .before .before .before .before .wide2 .ensures .0 ∙ c .before .before .before .before .before .before .kid .ensures) (c .before .before .before .before .before .before .before .child-rank .ensures ∙ rw (c .before .before .before .before .before .before .before .before .wide .ensures .0)) (omega arith) (c .span .ensures .0)
+loop-again c = handing-turn (c .before .before .before .before .before .before .before .loop .inv) (c .before .before .before .before .before .before .loop-test .taken) (c .before .before .before .before .kid .ensures) (c .before .before .before .before .before .child-rank .ensures) (omega arith) refl
 
 returns-2 : tie.Need-returns-2 Inv-loop μ-loop
 returns-2 c = handing-done (c .before .loop .inv) (c .loop-test .left)
@@ -88,16 +86,16 @@ hand-down-spec =
     arity-requires
     add-child
     loop-holds
-    wide-requires
+    cast-child-rank
     child-rank-requires
     kid-requires
-    wide-requires-2
+    cast-kind
     shared-slice-read-if1
     returns
     element-write-feasible
-    mul-span
-    element-copy-out-span
-    span-requires
+    mul-child
+    element-copy-out-child
+    cast-child
     add-j
     loop-less
     loop-again

@@ -1,7 +1,7 @@
-use mathlib.Core.Path.{_≡_, refl, sym, ap, _∙_}
-use Prim.Native.Nat.{_+_, _-_, _*_, _≤_, _<_}
+use mathlib.Core.Path.{refl}
+use Prim.Native.Nat.{_-_}
 use native.Mathlib.Omega.{arith}
-use borrow.Author.Needs.{needs}
+use Rattle.numbering.proofs.Words.{wide, wide-below, next-byte, less-left}
 use Rattle.numbering.proofs.Children.{opened, kid-low, Counting, counting-none, counting-turn, counting-done}
 use Rattle.numbering.proofs.kin.kid_counts.Statement.{statement}
 use Rattle.numbering.proofs.kin.kid_counts.Tie as tie
@@ -9,7 +9,6 @@ use Rattle.numbering.proofs.kin.kid_counts.Reads as reads
 use Rattle.numbering.proofs.kin.kid_counts.Lts as lts
 use Rattle.book.proofs.arity.Reads as arity-reads
 use Rattle.book.proofs.kid.Reads as kid-reads
-use Rattle.numbering.proofs.wide.Reads as wide-reads
 
 abbrev Inv-loop : tie.InvT-loop
 Inv-loop book places p counts at kids out₀ j₀ out j = Counting book counts p at kids out j
@@ -18,40 +17,40 @@ abbrev μ-loop : tie.MeasureT-loop
 μ-loop book places p counts at kids out₀ j₀ out j = kids - j
 
 mul-at : tie.Need-mul-at Inv-loop μ-loop
-mul-at c = search needs
+mul-at c = omega arith
 
 element-copy-out-at : tie.Need-element-copy-out-at Inv-loop μ-loop
 element-copy-out-at c = omega (arith, c .before .before .pre .0 .accepted .few-prods)
 
 arity-requires : tie.Need-arity-requires Inv-loop μ-loop
-arity-requires c κs = search needs
+arity-requires c κs = tt
 
 loop-holds : tie.Need-loop-holds Inv-loop μ-loop
 loop-holds c = counting-none (opened (c .before .before .before .before .pre .0) (c .before .before .before .before .pre .1) refl (c .arity .ensures)) (c .before .before .before .before .pre .2)
 
 kid-requires : tie.Need-kid-requires Inv-loop μ-loop
-kid-requires c κs = search needs
+kid-requires c κs = tt
 
-wide-requires : tie.Need-wide-requires Inv-loop μ-loop
-wide-requires c κs = search needs
+cast-kind : tie.Need-cast-kind Inv-loop μ-loop
+cast-kind c = wide (c .kid .ok)
 
 shared-slice-read-out : tie.Need-shared-slice-read-out Inv-loop μ-loop
-shared-slice-read-out c = omega (arith, kid-low (c .before .before .before .before .loop .inv .opened) _ (c .before .before .before .loop-test .taken) (c .before .before .kid .ensures))
+shared-slice-read-out c = omega (arith, kid-low (c .before .before .before .loop .inv .opened) _ (c .before .before .loop-test .taken) (c .before .kid .ensures))
 
-wide-requires-2 : tie.Need-wide-requires-2 Inv-loop μ-loop
-wide-requires-2 c κs = search needs
+cast-out : tie.Need-cast-out Inv-loop μ-loop
+cast-out c = wide-below (c .before .before .loop-test .taken) (c .before .before .before .before .arity .ok)
 
 array-write-out : tie.Need-array-write-out Inv-loop μ-loop
-array-write-out c = omega (arith, c .before .before .before .before .before .loop .inv .opened .few)
+array-write-out c = omega (arith, c .before .before .before .loop .inv .opened .few)
 
 add-j : tie.Need-add-j Inv-loop μ-loop
-add-j c = search needs
+add-j c = next-byte (c .before .before .loop-test .taken) (c .before .before .before .before .arity .ok)
 
 loop-less : tie.Need-loop-less Inv-loop μ-loop
-loop-less c = search needs
+loop-less c = less-left (c .before .before .loop-test .taken)
 
 loop-again : tie.Need-loop-again Inv-loop μ-loop
-loop-again c = rw (c .wide2 .ensures .0) (counting-turn (c .before .before .before .before .before .loop .inv) (c .before .before .before .before .loop-test .taken) (c .before .before .wide .ensures .0 ∙ c .before .before .before .kid .ensures) refl)
+loop-again c = (counting-turn (c .before .before .before .loop .inv) (c .before .before .loop-test .taken) (c .before .kid .ensures) refl)
 
 returns : tie.Need-returns Inv-loop μ-loop
 returns c = counting-done (c .before .loop .inv) (c .loop-test .left)
@@ -67,9 +66,9 @@ kid-counts-spec =
     arity-requires
     loop-holds
     kid-requires
-    wide-requires
+    cast-kind
     shared-slice-read-out
-    wide-requires-2
+    cast-out
     array-write-out
     add-j
     loop-less

@@ -1,21 +1,15 @@
-use mathlib.Core.Path.{_≡_, refl, sym, ap, _∙_}
-use Prim.Native.Nat.{_+_, _-_, _*_, _^_, _≤_, _<_}
+use Prim.Native.Nat.{_-_}
 use native.Mathlib.Omega.{arith}
-use borrow.Author.Needs.{needs}
-use lib.ListN.{length, getD, set}
-use Rattle.chains.specs.Limits.{max-kids, max-settings, max-prods, max-nodes}
-use Rattle.book.specs.Format.{grammar, prods}
-use Rattle.numbering.proofs.Children.{own-width}
-use Rattle.numbering.proofs.Trees.{node-at, few-settings}
+use lib.ListN.{length}
+use Rattle.book.specs.Format.{grammar}
+use Rattle.numbering.proofs.Words.{less-left, place-after, place-twice, below}
+use Rattle.numbering.proofs.Trees.{node-at}
 use Rattle.numbering.proofs.Firsts.{Placing, placing-none, placing-turn, placing-done}
 use Rattle.numbering.proofs.numbers.first_places.Statement.{statement}
 use Rattle.numbering.proofs.numbers.first_places.Tie as tie
 use Rattle.numbering.proofs.numbers.first_places.Reads as reads
 use Rattle.numbering.proofs.numbers.first_places.Lts as lts
-use Rattle.book.proofs.left.Reads as left-reads
-use Rattle.book.proofs.settings.Reads as settings-reads
-use Rattle.numbering.proofs.wide.Reads as wide-reads
-use Rattle.numbering.proofs.word.Reads as word-reads
+use Rattle.numbering.proofs.numbers.own_width.Reads as own-width-reads
 
 abbrev Inv-loop : tie.InvT-loop
 Inv-loop book places sheet firsts₀ next₀ i₀ firsts next i = Placing (grammar book) sheet firsts next i
@@ -27,49 +21,31 @@ loop-holds : tie.Need-loop-holds Inv-loop μ-loop
 loop-holds c = placing-none _ _ (c .before .before .pre .1 .few)
 
 mul-firsts : tie.Need-mul-firsts Inv-loop μ-loop
-mul-firsts c = search needs
+mul-firsts c = place-twice (below (c .loop-test .taken) (c .before .loop .inv .few))
 
 array-write-firsts : tie.Need-array-write-firsts Inv-loop μ-loop
-array-write-firsts c = omega (arith, c .before .loop .inv .few)
+array-write-firsts c = below (c .loop-test .taken) (c .before .loop .inv .few)
 
-shared-slice-read-wide : tie.Need-shared-slice-read-wide Inv-loop μ-loop
-shared-slice-read-wide c = search needs
+shared-slice-read-own-width : tie.Need-shared-slice-read-own-width Inv-loop μ-loop
+shared-slice-read-own-width c = c .before .loop-test .taken
 
-wide-requires : tie.Need-wide-requires Inv-loop μ-loop
-wide-requires c κs = search needs
+own-width-requires : tie.Need-own-width-requires Inv-loop μ-loop
+own-width-requires c κs = (c .before .before .before .before .before .pre .0, node-at (c .before .before .before .before .before .pre .1 .tree-of) (c .before .before .loop .i) (c .before .loop-test .taken) .known)
 
-mul-left : tie.Need-mul-left Inv-loop μ-loop
-mul-left c = search needs
-
-element-copy-out-left : tie.Need-element-copy-out-left Inv-loop μ-loop
-element-copy-out-left c = omega (arith, node-at (c .before .before .before .before .before .before .pre .1 .tree-of) (c .before .before .before .loop .i) (c .before .before .loop-test .taken) .known, c .before .before .before .before .before .before .pre .0 .accepted .few-prods)
-
-left-requires : tie.Need-left-requires Inv-loop μ-loop
-left-requires c κs = search needs
-
-settings-requires : tie.Need-settings-requires Inv-loop μ-loop
-settings-requires c κs = search needs
-
-word-requires : tie.Need-word-requires Inv-loop μ-loop
-word-requires c κs = search needs
+cast-next : tie.Need-cast-next Inv-loop μ-loop
+cast-next c = omega arith
 
 add-next : tie.Need-add-next Inv-loop μ-loop
-add-next c =
-    let known = node-at (c .before .before .before .before .before .before .before .before .before .before .pre .1 .tree-of) (c .before .before .before .before .before .before .before .loop .i) (c .before .before .before .before .before .before .loop-test .taken) .known in
-    let width = own-width (c .before .before .before .before .before .before .before .before .before .before .pre .0) known (rw (c .before .before .before .before .wide .ensures .0)) (c .before .before .left .ensures) (c .word .ensures .0 ∙ c .before .settings .ensures) in
-    omega (arith, few-settings (c .before .before .before .before .before .before .before .before .before .before .pre .0 .accepted) _ known, c .before .before .before .before .before .before .before .loop .inv .small, c .before .before .before .before .before .before .before .loop .inv .few)
+add-next c = omega (arith, c .own-width .ensures .1, c .before .before .before .loop .inv .small, c .before .before .before .loop .inv .few)
 
 add-i : tie.Need-add-i Inv-loop μ-loop
-add-i c = search needs
+add-i c = place-after (below (c .before .before .loop-test .taken) (c .before .before .before .loop .inv .few))
 
 loop-less : tie.Need-loop-less Inv-loop μ-loop
-loop-less c = search needs
+loop-less c = less-left (c .before .before .loop-test .taken)
 
 loop-again : tie.Need-loop-again Inv-loop μ-loop
-loop-again c =
-    let known = node-at (c .before .before .before .before .before .before .before .before .before .before .pre .1 .tree-of) (c .before .before .before .before .before .before .before .loop .i) (c .before .before .before .before .before .before .loop-test .taken) .known in
-    let width = own-width (c .before .before .before .before .before .before .before .before .before .before .pre .0) known (rw (c .before .before .before .before .wide .ensures .0)) (c .before .before .left .ensures) (c .word .ensures .0 ∙ c .before .settings .ensures) in
-    placing-turn (c .before .before .before .before .before .before .before .loop .inv) (c .before .before .before .before .before .before .loop-test .taken) width (omega (arith, few-settings (c .before .before .before .before .before .before .before .before .before .before .pre .0 .accepted) _ known))
+loop-again c = placing-turn (c .before .before .before .loop .inv) (c .before .before .loop-test .taken) (c .own-width .ensures .0) (c .own-width .ensures .1)
 
 returns : tie.Need-returns Inv-loop μ-loop
 returns c = placing-done (c .before .loop .inv) (c .loop-test .left)
@@ -83,13 +59,9 @@ first-places-spec =
     loop-holds
     mul-firsts
     array-write-firsts
-    shared-slice-read-wide
-    wide-requires
-    mul-left
-    element-copy-out-left
-    left-requires
-    settings-requires
-    word-requires
+    shared-slice-read-own-width
+    own-width-requires
+    cast-next
     add-next
     add-i
     loop-less

@@ -1,46 +1,39 @@
-use mathlib.Core.Path.{_≡_, refl, sym, ap, _∙_}
-use Prim.Native.Nat.{_+_, _-_, _*_, _≤_, _<_}
+use Prim.Native.Nat.{_-_}
 use native.Mathlib.Omega.{arith}
-use borrow.Author.Needs.{needs}
 use Rattle.numbering.proofs.Holders.{held-again, held-first}
 use Rattle.numbering.proofs.numbers.hold.Statement.{statement}
 use Rattle.numbering.proofs.numbers.hold.Tie as tie
 use Rattle.numbering.proofs.numbers.hold.Reads as reads
 use Rattle.numbering.proofs.numbers.hold.Lts as lts
-use Rattle.numbering.proofs.wide.Reads as wide-reads
-
-wide-requires : tie.Need-wide-requires
-wide-requires c κs = search needs
 
 mul-if1 : tie.Need-mul-if1
-mul-if1 c = search needs
+mul-if1 c = omega arith
 
 element-copy-out-if1 : tie.Need-element-copy-out-if1
-element-copy-out-if1 c = search needs
+element-copy-out-if1 c = omega arith
 
 returns : tie.Need-returns
-returns c = (held-again _ (omega (arith, c .before .before .wide .ensures .1)) (rw (c .before .before .wide .ensures .0) at (c .if1 .taken)), omega arith)
+returns c = (held-again _ (omega (arith, c .before .before .fits .label)) (c .if1 .taken), omega arith)
 
 mul-stamps : tie.Need-mul-stamps
-mul-stamps c = search needs
+mul-stamps c = omega arith
 
 element-write-stamps : tie.Need-element-write-stamps
-element-write-stamps c = search needs
+element-write-stamps c = omega arith
 
 mul-held : tie.Need-mul-held
-mul-held c = search needs
+mul-held c = omega arith
 
 element-write-held : tie.Need-element-write-held
-element-write-held c = search needs
+element-write-held c = omega arith
 
 returns-2 : tie.Need-returns-2
-returns-2 c = rw (c .before .before .wide .ensures .0) (held-first _ (omega (arith, c .before .before .wide .ensures .1)) (rw (c .before .before .wide .ensures .0) at (c .if1 .left)), omega arith)
+returns-2 c = (held-first _ (omega (arith, c .before .before .fits .label)) (c .if1 .left), omega arith)
 
 pub hold-spec : {M : Type 1} → statement M
 hold-spec =
     tie.close
     (tie.spec
-    wide-requires
     mul-if1
     element-copy-out-if1
     returns

@@ -1,81 +1,59 @@
-use mathlib.Core.Path.{_≡_, refl, sym, ap, _∙_}
-use Prim.Native.Nat.{_+_, _-_, _*_, _^_, _≤_, _<_}
+use mathlib.Core.Path.{refl, _∙_}
+use Prim.Native.Nat.{_-_}
 use native.Mathlib.Omega.{arith}
 use borrow.Author.Needs.{needs}
-use lib.ListN.{length, getD}
+use lib.ListN.{length}
 use Rattle.book.specs.Format.{grammar}
 use Rattle.numbering.specs.Giving.{Firsts}
-use Rattle.numbering.proofs.Children.{own-width}
-use Rattle.numbering.proofs.Trees.{node-at, settings-inside, few-settings}
+use Rattle.numbering.proofs.Words.{less-left, place-after, place-eight, below, fits-kept, first-numbers}
+use Rattle.numbering.proofs.Trees.{node-at, root-inside}
 use Rattle.numbering.proofs.Walking.{Walking, walking-begins, beyond-root, walking-known, walking-low, walking-children, walking-kinds, walking-turn, walking-done}
 use Rattle.numbering.proofs.numbers.number_all.Statement.{statement}
 use Rattle.numbering.proofs.numbers.number_all.Tie as tie
 use Rattle.numbering.proofs.numbers.number_all.Reads as reads
 use Rattle.numbering.proofs.numbers.number_all.Lts as lts
-use Rattle.book.proofs.left.Reads as left-reads
-use Rattle.book.proofs.settings.Reads as settings-reads
 use Rattle.numbering.proofs.numbers.first_places.Reads as first-places-reads
 use Rattle.numbering.proofs.numbers.number_node.Reads as number-node-reads
 use Rattle.numbering.proofs.numbers.number_slot.Reads as number-slot-reads
-use Rattle.numbering.proofs.wide.Reads as wide-reads
+use Rattle.numbering.proofs.numbers.own_width.Reads as own-width-reads
 
 abbrev Inv-loop : tie.InvT-loop
-Inv-loop book places sheet down ends entries groups₀ firsts stamps₀ held₀ width next₀ i₀ groups stamps held next i =
+Inv-loop book places sheet down ends entries groups₀ firsts stamps₀ held₀ next₀ i₀ groups stamps held next i =
     Walking book sheet down ends entries groups₀ stamps held groups next i × Firsts (grammar book) sheet firsts
 
 abbrev μ-loop : tie.MeasureT-loop
-μ-loop book places sheet down ends entries groups₀ firsts stamps₀ held₀ width next₀ i₀ groups stamps held next i = length sheet - i
+μ-loop book places sheet down ends entries groups₀ firsts stamps₀ held₀ next₀ i₀ groups stamps held next i = length sheet - i
 
 first-places-requires : tie.Need-first-places-requires Inv-loop μ-loop
 first-places-requires c κs = search needs
 
-shared-slice-read-wide : tie.Need-shared-slice-read-wide Inv-loop μ-loop
-shared-slice-read-wide c = omega (arith, c .before .before .before .before .before .before .pre .1 .some)
-
-wide-requires : tie.Need-wide-requires Inv-loop μ-loop
-wide-requires c κs = search needs
-
-mul-left : tie.Need-mul-left Inv-loop μ-loop
-mul-left c = search needs
-
-element-copy-out-left : tie.Need-element-copy-out-left Inv-loop μ-loop
-element-copy-out-left c = omega (arith, node-at (c .before .before .before .before .before .before .before .pre .1 .tree-of) 0 (c .before .before .before .before .before .before .before .pre .1 .some) .known, c .before .before .before .before .before .before .before .pre .0 .accepted .few-prods)
-
-left-requires : tie.Need-left-requires Inv-loop μ-loop
-left-requires c κs = search needs
-
-settings-requires : tie.Need-settings-requires Inv-loop μ-loop
-settings-requires c κs = search needs
-
-wide-requires-2 : tie.Need-wide-requires-2 Inv-loop μ-loop
-wide-requires-2 c κs = search needs
-
 element-copy-out-number-slot : tie.Need-element-copy-out-number-slot Inv-loop μ-loop
-element-copy-out-number-slot c = search needs
+element-copy-out-number-slot c = omega arith
+
+shared-slice-read-own-width : tie.Need-shared-slice-read-own-width Inv-loop μ-loop
+shared-slice-read-own-width c = c .before .before .before .before .before .before .before .pre .1 .some
+
+own-width-requires : tie.Need-own-width-requires Inv-loop μ-loop
+own-width-requires c κs = (c .before .before .before .before .before .before .before .pre .0, node-at (c .before .before .before .before .before .before .before .pre .1 .tree-of) 0 (c .before .before .before .before .before .before .before .pre .1 .some) .known)
 
 number-slot-requires : tie.Need-number-slot-requires Inv-loop μ-loop
 number-slot-requires c κs =
-    let s = c .before .before .before .before .before .before .before .before .before .before .before .before .before .before .before in
-    let l = s .args .sheet .now in
-    let w = own-width (c .before .before .before .before .before .before .before .before .before .before .before .before .before .before .before .pre .0) (node-at (c .before .before .before .before .before .before .before .before .before .before .before .before .before .before .before .pre .1 .tree-of) 0 (c .before .before .before .before .before .before .before .before .before .before .before .before .before .before .before .pre .1 .some) .known) (rw (c .before .before .before .before .before .before .before .before .wide .ensures .0)) (c .before .before .before .before .before .before .left .ensures) (c .before .before .before .before .wide2 .ensures .0 ∙ c .before .before .before .before .before .settings .ensures) in
-    let narrow = few-settings (s .pre .0 .accepted) (getD l 0 0) (node-at (c .before .before .before .before .before .before .before .before .before .before .before .before .before .before .before .pre .1 .tree-of) 0 (c .before .before .before .before .before .before .before .before .before .before .before .before .before .before .before .pre .1 .some) .known) in
-    (omega arith, omega (arith, w, narrow), omega (arith, w, settings-inside (grammar (s .args .book .now)) l 0 (s .pre .1 .some), s .pre .3), omega (arith, w, narrow), search needs, search needs)
+    let s = c .before .before .before .before .before .before .before .before .before .before .before in
+    let w = c .before .before .before .own-width .ensures in
+    (omega arith, w .1, root-inside (grammar (s .args .book .now)) (s .args .sheet .now) (w .0) (s .pre .1 .some) (s .pre .3), first-numbers (w .1), refl, refl)
 
 loop-holds : tie.Need-loop-holds Inv-loop μ-loop
-loop-holds c =
-    let s = c .before .before .before .before .before .before .before .before .before .before .before .before .before .before .before .before .before .before in
-    let w = own-width (c .before .before .before .before .before .before .before .before .before .before .before .before .before .before .before .before .before .before .pre .0) (node-at (c .before .before .before .before .before .before .before .before .before .before .before .before .before .before .before .before .before .before .pre .1 .tree-of) 0 (c .before .before .before .before .before .before .before .before .before .before .before .before .before .before .before .before .before .before .pre .1 .some) .known) (rw (c .before .before .before .before .before .before .before .before .before .before .before .wide .ensures .0)) (c .before .before .before .before .before .before .before .before .before .left .ensures) (c .before .before .before .before .before .before .before .wide2 .ensures .0 ∙ c .before .before .before .before .before .before .before .before .settings .ensures) in
-    (walking-begins (s .pre .1) (s .pre .3) refl w (c .before .before .number-slot .ensures), c .before .before .before .before .before .before .before .before .before .before .before .before .before .first-places .ensures)
+loop-holds c = (walking-begins (c .before .before .before .before .before .before .before .before .before .before .before .before .before .before .pre .1) (c .before .before .before .before .before .before .before .before .before .before .before .before .before .before .pre .3) refl (c .before .before .before .before .before .before .own-width .ensures .0) (c .before .before .number-slot .ensures), c .before .before .before .before .before .before .before .before .before .first-places .ensures)
 
 mul-number-node : tie.Need-mul-number-node Inv-loop μ-loop
-mul-number-node c = omega (arith, c .before .loop .inv .0 .few)
+mul-number-node c = place-eight (below (c .loop-test .taken) (c .before .loop .inv .0 .few))
 
 element-copy-out-number-node : tie.Need-element-copy-out-number-node Inv-loop μ-loop
-element-copy-out-number-node c = omega (arith, c .before .loop .inv .0 .few)
+element-copy-out-number-node c = below (c .loop-test .taken) (c .before .loop .inv .0 .few)
 
 number-node-requires : tie.Need-number-node-requires Inv-loop μ-loop
 number-node-requires c κs =
-    let s = c .before .before .before .before .before .before .before .before .before .before .before .before .before .before .before .before .before .before .before .before .before .before .before .before .before in
+    let s = c .before .before .before .before .before .before .before .before .before .before .before .before .before .before .before .before .before .before .before .before .before in
     let k = c .before .before .before .before .before .before .loop .inv .0 in
     let t = c .before .before .before .before .before .loop-test .taken in
     let a = s .pre .0 .accepted in (
@@ -86,7 +64,7 @@ number-node-requires c κs =
       walking-children k (s .pre .2) a t,
       walking-kinds k (s .pre .2) a t,
       c .before .before .before .before .before .before .loop .inv .1,
-      omega (arith, k .room, k .long),
+      fits-kept (k .room) (k .long),
       s .pre .4,
       c .before .before .before .before .before .before .loop .inv .1 .long,
       k .stamps-long,
@@ -94,10 +72,10 @@ number-node-requires c κs =
     )
 
 add-i : tie.Need-add-i Inv-loop μ-loop
-add-i c = search needs
+add-i c = place-after (below (c .before .before .before .before .before .before .before .before .loop-test .taken) (c .before .before .before .before .before .before .before .before .before .loop .inv .0 .few))
 
 loop-less : tie.Need-loop-less Inv-loop μ-loop
-loop-less c = search needs
+loop-less c = less-left (c .before .before .before .before .before .before .before .before .loop-test .taken)
 
 loop-again : tie.Need-loop-again Inv-loop μ-loop
 loop-again c = (walking-turn (c .before .before .before .before .before .before .before .before .before .loop .inv .0) (c .before .before .before .before .before .before .before .before .loop-test .taken) refl (c .before .before .number-node .ensures), c .before .before .before .before .before .before .before .before .before .loop .inv .1)
@@ -106,10 +84,7 @@ same-length : tie.Need-same-length Inv-loop μ-loop
 same-length c = c .before .loop .inv .0 .long ∙ c .before .before .before .before .number-slot .ensures .long
 
 returns : tie.Need-returns Inv-loop μ-loop
-returns c =
-    let s = c .before .before .before .before .before .before .before .before .before .before .before .before .before .before .before .before .before .before .before .before in
-    let w = own-width (c .before .before .before .before .before .before .before .before .before .before .before .before .before .before .before .before .before .before .before .before .pre .0) (node-at (c .before .before .before .before .before .before .before .before .before .before .before .before .before .before .before .before .before .before .before .before .pre .1 .tree-of) 0 (c .before .before .before .before .before .before .before .before .before .before .before .before .before .before .before .before .before .before .before .before .pre .1 .some) .known) (rw (c .before .before .before .before .before .before .before .before .before .before .before .before .before .wide .ensures .0)) (c .before .before .before .before .before .before .before .before .before .before .before .left .ensures) (c .before .before .before .before .before .before .before .before .before .wide2 .ensures .0 ∙ c .before .before .before .before .before .before .before .before .before .before .settings .ensures) in
-    beyond-root (s .pre .1) (s .pre .3) refl w (c .before .before .before .before .number-slot .ensures) (walking-done (c .before .loop .inv .0) (c .loop-test .left))
+returns c = beyond-root (c .before .before .before .before .before .before .before .before .before .before .before .before .before .before .before .before .pre .1) (c .before .before .before .before .before .before .before .before .before .before .before .before .before .before .before .before .pre .3) refl (c .before .before .before .before .before .before .before .before .own-width .ensures .0) (c .before .before .before .before .number-slot .ensures) (walking-done (c .before .loop .inv .0) (c .loop-test .left))
 
 pub number-all-spec : {M : Type 1} → statement M
 number-all-spec =
@@ -118,14 +93,9 @@ number-all-spec =
     Inv-loop
     μ-loop
     first-places-requires
-    shared-slice-read-wide
-    wide-requires
-    mul-left
-    element-copy-out-left
-    left-requires
-    settings-requires
-    wide-requires-2
     element-copy-out-number-slot
+    shared-slice-read-own-width
+    own-width-requires
     number-slot-requires
     loop-holds
     mul-number-node

@@ -1,16 +1,16 @@
-use mathlib.Core.Path.{_≡_, refl, sym, ap, _∙_}
-use Prim.Native.Nat.{_+_, _-_, _*_, _≤_, _<_}
+use mathlib.Core.Path.{_≡_, refl, _∙_}
+use Prim.Native.Nat.{_-_, _≤_}
 use native.Mathlib.Omega.{arith}
 use borrow.Author.Needs.{needs}
-use lib.ListN.{length, getD, set}
+use lib.ListN.{length}
 use Rattle.numbering.specs.Giving.{labels-known, Slot}
+use Rattle.numbering.proofs.Words.{less-left}
 use Rattle.numbering.proofs.Slots.{slot-none, slot-turn, slot-done}
 use Rattle.numbering.proofs.numbers.number_slot.Statement.{statement}
 use Rattle.numbering.proofs.numbers.number_slot.Tie as tie
 use Rattle.numbering.proofs.numbers.number_slot.Reads as reads
 use Rattle.numbering.proofs.numbers.number_slot.Lts as lts
 use Rattle.numbering.proofs.numbers.hold.Reads as hold-reads
-use Rattle.numbering.proofs.wide.Reads as wide-reads
 use Rattle.ranks.proofs.label.Reads as label-reads
 
 abbrev Inv-loop : tie.InvT-loop
@@ -23,46 +23,46 @@ loop-holds : tie.Need-loop-holds Inv-loop μ-loop
 loop-holds c = (slot-none _ _ _ _ _ _ _ _ _, omega arith, search needs, search needs)
 
 mul-label : tie.Need-mul-label Inv-loop μ-loop
-mul-label c = search needs
+mul-label c = omega arith
 
 add-label : tie.Need-add-label Inv-loop μ-loop
-add-label c = search needs
+add-label c = omega arith
 
 label-requires : tie.Need-label-requires Inv-loop μ-loop
-label-requires c κs = search needs
+label-requires c κs = tt
 
 hold-requires : tie.Need-hold-requires Inv-loop μ-loop
 hold-requires c κs = search needs
 
-wide-requires : tie.Need-wide-requires Inv-loop μ-loop
-wide-requires c κs = search needs
+cast-groups : tie.Need-cast-groups Inv-loop μ-loop
+cast-groups c = omega arith
 
 mul-groups : tie.Need-mul-groups Inv-loop μ-loop
-mul-groups c = search needs
+mul-groups c = omega arith
 
 element-copy-out-groups : tie.Need-element-copy-out-groups Inv-loop μ-loop
-element-copy-out-groups c = search needs
+element-copy-out-groups c = omega arith
 
 add-groups : tie.Need-add-groups Inv-loop μ-loop
-add-groups c = search needs
+add-groups c = omega arith
 
 mul-groups-2 : tie.Need-mul-groups-2 Inv-loop μ-loop
-mul-groups-2 c = search needs
+mul-groups-2 c = omega arith
 
 slice-write-groups : tie.Need-slice-write-groups Inv-loop μ-loop
-slice-write-groups c = search needs
+slice-write-groups c = omega arith
 
 add-next : tie.Need-add-next Inv-loop μ-loop
-add-next c = search needs
+add-next c = omega arith
 
 add-a : tie.Need-add-a Inv-loop μ-loop
-add-a c = search needs
+add-a c = omega arith
 
 loop-less : tie.Need-loop-less Inv-loop μ-loop
-loop-less c = search needs
+loop-less c = less-left (c .before .before .before .before .before .loop-test .taken)
 
 loop-again : tie.Need-loop-again Inv-loop μ-loop
-loop-again c = (slot-turn (c .before .before .before .before .before .before .before .loop .inv .0) (omega arith) (omega arith) (omega arith) (c .before .before .before .before .before .label .ensures) (c .before .before .hold .ensures .0) (c .before .before .hold .ensures .1) (rw (c .before .wide .ensures .0)), omega arith, c .before .before .hold .ensures .0 .stamps-kept ∙ c .before .before .before .before .before .before .before .loop .inv .2, c .before .before .hold .ensures .0 .numbers-kept ∙ c .before .before .before .before .before .before .before .loop .inv .3)
+loop-again c = (slot-turn (c .before .before .before .before .before .before .loop .inv .0) (omega arith) (omega arith) (omega arith) (c .before .before .before .before .label .ensures) (c .before .hold .ensures .0) (c .before .hold .ensures .1) refl, omega arith, c .before .hold .ensures .0 .stamps-kept ∙ c .before .before .before .before .before .before .loop .inv .2, c .before .hold .ensures .0 .numbers-kept ∙ c .before .before .before .before .before .before .loop .inv .3)
 
 same-length : tie.Need-same-length Inv-loop μ-loop
 same-length c = search needs
@@ -81,7 +81,7 @@ number-slot-spec =
     add-label
     label-requires
     hold-requires
-    wide-requires
+    cast-groups
     mul-groups
     element-copy-out-groups
     add-groups

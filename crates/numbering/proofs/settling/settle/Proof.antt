@@ -1,6 +1,7 @@
 -- Each exit has its own law.
 use mathlib.Core.Path.{refl}
 use Rattle.numbering.proofs.Due.{sheeted}
+use Rattle.numbering.proofs.Filling.{filled}
 use Rattle.numbering.proofs.Settled.{clear-book, clear-index, settled-big, settled-bad, settled-walkable, settled-well}
 use borrow.Author.Needs.{needs}
 use Rattle.numbering.proofs.settling.settle.Statement.{statement}
@@ -10,19 +11,17 @@ use Rattle.numbering.proofs.settling.settle.Lts as lts
 use Rattle.book.proofs.index.Reads as index-reads
 use Rattle.numbering.proofs.choice.choose.Reads as choose-reads
 use Rattle.numbering.proofs.counts.too_many.Reads as too-many-reads
-use Rattle.numbering.proofs.writing.fill.Reads as fill-reads
+use Rattle.numbering.proofs.numbers.number_all.Reads as number-all-reads
+use Rattle.numbering.proofs.telling.tell.Reads as tell-reads
 
 too-many-requires : tie.Need-too-many-requires
 too-many-requires c κs = (clear-book (c .before .before .before .before .before .before .before .before .pre .0), c .before .before .before .before .before .before .before .before .pre .0 .plausible-counts, c .before .before .before .before .before .before .before .before .pre .0 .feasible-counts)
 
-refused-requires : tie.Need-refused-requires
-refused-requires c κs = search needs
-
 returns : tie.Need-returns
-returns c = settled-big (c .before .before .before .before .before .before .before .before .before .before .before .pre .0) (c .before .before .too-many .ensures) (c .before .if1 .taken) (c .refused .ensures)
+returns c = settled-big (c .before .before .before .before .before .before .before .before .before .before .pre .0) (c .before .too-many .ensures) (c .if1 .taken) refl
 
 index-requires : tie.Need-index-requires
-index-requires c κs = search needs
+index-requires c κs = tt
 
 choose-requires : tie.Need-choose-requires
 choose-requires c κs = (
@@ -39,30 +38,30 @@ choose-requires c κs = (
 enum-known-place : tie.Need-enum-known-place
 enum-known-place c = search needs
 
-refused-requires-2 : tie.Need-refused-requires-2
-refused-requires-2 c κs = search needs
-
 enum-told : tie.Need-enum-told
 enum-told c = search needs
 
-fill-requires : tie.Need-fill-requires
-fill-requires c κs = (
-  clear-index (c .before .before .before .before .before .before .before .before .before .before .before .before .before .before .before .before .before .before .before .before .before .before .before .before .before .before .pre .0) (c .before .before .before .before .before .before .before .before .before .before .before .before .before .before .before .index .ensures),
-  sheeted (c .before .before .before .before .before .before .before .before .before .before .before .before .before .before .before .before .before .before .before .before .before .before .before .before .before .before .pre .0 .fits),
-  settled-walkable (c .before .before .before .before .before .before .before .before .before .before .before .before .before .before .before .before .before .before .before .before .before .before .before .before .before .before .pre .0) (c .before .before .before .before .before .before .before .before .before .before .before .before .before .before .before .before .before .too-many .ensures) (c .before .before .before .before .before .before .before .before .before .before .before .before .before .before .before .before .if1 .left) (c .before .before .before .before .before .before .before .before .before .choose .ensures) (c .before .before .before .before .before .before .before .enum-told .given .1),
-  c .before .before .before .before .before .before .before .before .before .before .before .before .before .before .before .before .before .before .before .before .before .before .before .before .before .before .pre .0 .nodes,
-  c .before .before .before .before .before .before .before .before .before .before .before .before .before .before .before .before .before .before .before .before .before .before .before .before .before .before .pre .0 .groups,
-  c .before .before .before .before .before .before .before .before .before .choose .ensures .plausible-long,
-  c .before .before .before .before .before .before .before .before .before .choose .ensures .ends-long,
-  c .before .before .before .before .before .before .before .before .before .choose .ensures .feasible-long,
-  c .before .before .before .before .before .before .before .before .before .choose .ensures .entries-long,
+tell-requires : tie.Need-tell-requires
+tell-requires c κs = (
+  sheeted (c .before .before .before .before .before .before .before .before .before .before .before .before .before .before .before .before .before .before .before .before .before .before .before .pre .0 .fits) .few,
+  c .before .before .before .before .before .before .before .before .before .before .before .before .before .before .before .before .before .before .before .before .before .before .before .pre .0 .nodes,
+  c .before .before .before .before .before .before .choose .ensures .plausible-long,
+  c .before .before .before .before .before .before .choose .ensures .feasible-long,
+  c .before .before .before .before .before .before .choose .ensures .entries-long,
 )
 
-accepted-requires : tie.Need-accepted-requires
-accepted-requires c κs = search needs
+number-all-requires : tie.Need-number-all-requires
+number-all-requires c κs = (
+  clear-index (c .before .before .before .before .before .before .before .before .before .before .before .before .before .before .before .before .before .before .before .before .before .before .before .before .before .before .before .before .before .before .pre .0) (c .before .before .before .before .before .before .before .before .before .before .before .before .before .before .before .before .before .before .before .index .ensures),
+  sheeted (c .before .before .before .before .before .before .before .before .before .before .before .before .before .before .before .before .before .before .before .before .before .before .before .before .before .before .before .before .before .before .pre .0 .fits),
+  settled-walkable (c .before .before .before .before .before .before .before .before .before .before .before .before .before .before .before .before .before .before .before .before .before .before .before .before .before .before .before .before .before .before .pre .0) (c .before .before .before .before .before .before .before .before .before .before .before .before .before .before .before .before .before .before .before .before .before .too-many .ensures) (c .before .before .before .before .before .before .before .before .before .before .before .before .before .before .before .before .before .before .before .before .if1 .left) (c .before .before .before .before .before .before .before .before .before .before .before .before .before .choose .ensures) (c .before .before .before .before .before .before .before .before .before .before .before .enum-told .given .1),
+  c .before .before .before .before .before .before .before .before .before .before .before .before .before .before .before .before .before .before .before .before .before .before .before .before .before .before .before .before .before .before .pre .0 .groups,
+  c .before .before .before .before .before .before .before .before .before .before .before .before .before .choose .ensures .ends-long,
+  c .before .before .before .before .before .before .before .before .before .before .before .before .before .choose .ensures .entries-long,
+)
 
 returns-2 : tie.Need-returns-2
-returns-2 c = settled-bad (c .before .before .before .before .before .before .before .before .before .before .before .before .before .before .before .before .before .before .before .before .before .pre .0) (c .before .before .before .before .before .before .before .before .before .before .before .before .too-many .ensures) (c .before .before .before .before .before .before .before .before .before .before .before .if1 .left) (c .before .before .before .before .choose .ensures) (c .before .before .place .given .1) (c .refused2 .ensures)
+returns-2 c = settled-bad (c .before .before .before .before .before .before .before .before .before .before .before .before .before .before .before .before .before .before .before .before .pre .0) (c .before .before .before .before .before .before .before .before .before .before .before .too-many .ensures) (c .before .before .before .before .before .before .before .before .before .before .if1 .left) (c .before .before .before .choose .ensures) (c .before .place .given .1) refl
 
 same-length : tie.Need-same-length
 same-length c = search needs
@@ -71,22 +70,20 @@ same-length-2 : tie.Need-same-length-2
 same-length-2 c = search needs
 
 returns-3 : tie.Need-returns-3
-returns-3 c = settled-well (c .before .before .before .before .before .before .before .before .before .before .before .before .before .before .before .before .before .before .before .before .before .before .before .before .before .before .before .before .before .before .before .before .pre .0) (c .before .before .before .before .before .before .before .before .before .before .before .before .before .before .before .before .before .before .before .before .before .before .before .too-many .ensures) (c .before .before .before .before .before .before .before .before .before .before .before .before .before .before .before .before .before .before .before .before .before .before .if1 .left) (c .before .before .before .before .before .before .before .before .before .before .before .before .before .before .before .choose .ensures) (c .before .before .before .before .before .before .before .before .before .before .before .before .before .enum-told .given .1) (c .before .before .before .before .before .before .before .before .before .before .before .before .before .before .before .before .before .before .before .before .before .before .before .before .before .before .before .before .before .before .before .before .pre .1) (c .before .before .before .before .before .before .before .before .before .before .before .before .before .before .before .before .before .before .before .before .before .before .before .before .before .before .before .before .before .before .before .before .pre .2) (c .before .before .before .before .before .fill .ensures) (c .accepted .ensures)
+returns-3 c = settled-well (c .before .before .before .before .before .before .before .before .before .before .before .before .before .before .before .before .before .before .before .before .before .before .before .before .before .before .before .before .before .before .before .before .before .pre .0) (c .before .before .before .before .before .before .before .before .before .before .before .before .before .before .before .before .before .before .before .before .before .before .before .before .too-many .ensures) (c .before .before .before .before .before .before .before .before .before .before .before .before .before .before .before .before .before .before .before .before .before .before .before .if1 .left) (c .before .before .before .before .before .before .before .before .before .before .before .before .before .before .before .before .choose .ensures) (c .before .before .before .before .before .before .before .before .before .before .before .before .before .before .enum-told .given .1) (c .before .before .before .before .before .before .before .before .before .before .before .before .before .before .before .before .before .before .before .before .before .before .before .before .before .before .before .before .before .before .before .before .before .pre .1) (c .before .before .before .before .before .before .before .before .before .before .before .before .before .before .before .before .before .before .before .before .before .before .before .before .before .before .before .before .before .before .before .before .before .pre .2) (filled (c .before .before .before .before .before .before .before .before .before .tell .ensures) (c .before .before .number-all .ensures)) refl
 
 pub settle-spec : {M : Type 1} → statement M
 settle-spec =
     tie.close
     (tie.spec
     too-many-requires
-    refused-requires
     returns
     index-requires
     choose-requires
     enum-known-place
-    refused-requires-2
     enum-told
-    fill-requires
-    accepted-requires
+    tell-requires
+    number-all-requires
     returns-2
     same-length
     same-length-2

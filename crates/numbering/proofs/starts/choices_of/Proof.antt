@@ -1,14 +1,13 @@
-use mathlib.Core.Path.{_≡_, refl, sym, ap, _∙_}
-use Prim.Native.Nat.{_+_, _-_, _*_, _≤_, _<_}
+use mathlib.Core.Path.{refl}
+use Prim.Native.Nat.{_-_}
 use native.Mathlib.Omega.{arith}
 use borrow.Author.Needs.{needs}
-use Rattle.chains.specs.Limits.{max-kids, max-settings, max-prods, max-nodes}
+use Rattle.chains.specs.Limits.{max-kids}
 use Rattle.numbering.proofs.Products.{Multiplying, multiplying-none, multiplying-turn, multiplying-small, multiplying-done}
 use Rattle.numbering.proofs.starts.choices_of.Statement.{statement}
 use Rattle.numbering.proofs.starts.choices_of.Tie as tie
 use Rattle.numbering.proofs.starts.choices_of.Reads as reads
 use Rattle.numbering.proofs.starts.choices_of.Lts as lts
-use Rattle.numbering.proofs.long.Reads as long-reads
 
 abbrev Inv-loop : tie.InvT-loop
 Inv-loop counts product₀ j₀ product j = Multiplying max-kids counts product j
@@ -20,22 +19,22 @@ loop-holds : tie.Need-loop-holds Inv-loop μ-loop
 loop-holds c = multiplying-none max-kids _
 
 sub-j : tie.Need-sub-j Inv-loop μ-loop
-sub-j c = search needs
+sub-j c = omega arith
 
-array-read-long : tie.Need-array-read-long Inv-loop μ-loop
-array-read-long c = search needs
+array-read-product : tie.Need-array-read-product Inv-loop μ-loop
+array-read-product c = omega arith
 
-long-requires : tie.Need-long-requires Inv-loop μ-loop
-long-requires c κs = search needs
+cast-product : tie.Need-cast-product Inv-loop μ-loop
+cast-product c = search needs
 
 mul-product : tie.Need-mul-product Inv-loop μ-loop
-mul-product c = omega (arith, multiplying-small (multiplying-turn (c .before .before .loop .inv) (c .before .loop-test .taken) (c .long .ensures .0) (c .long .ensures .1)))
+mul-product c = omega (arith, multiplying-small (multiplying-turn (c .before .loop .inv) (c .loop-test .taken) refl (search needs)))
 
 loop-less : tie.Need-loop-less Inv-loop μ-loop
-loop-less c = search needs
+loop-less c = omega arith
 
 loop-again : tie.Need-loop-again Inv-loop μ-loop
-loop-again c = multiplying-turn (c .before .before .loop .inv) (c .before .loop-test .taken) (c .long .ensures .0) (c .long .ensures .1)
+loop-again c = multiplying-turn (c .before .loop .inv) (c .loop-test .taken) refl (search needs)
 
 returns : tie.Need-returns Inv-loop μ-loop
 returns c = multiplying-done (c .before .loop .inv) (c .loop-test .left)
@@ -48,8 +47,8 @@ choices-of-spec =
     μ-loop
     loop-holds
     sub-j
-    array-read-long
-    long-requires
+    array-read-product
+    cast-product
     mul-product
     loop-less
     loop-again
