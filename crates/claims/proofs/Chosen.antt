@@ -24,9 +24,9 @@ use Rattle.chains.proofs.WellKinded.{sub-kinded, root-kind, root-kids, one-tree
 use Rattle.chains.proofs.Nodes.{sub-flat, sub-child}
 use Rattle.chains.proofs.Sharing.{labels-told}
 use Rattle.book.specs.Format.{occ}
-use Rattle.ranks.specs.Entries.{labels, entry-bytes, none}
+use Rattle.ranks.specs.Entries.{Ranks, labels, entry-bytes, none}
 use Rattle.tables.specs.Sets.{member}
-use Rattle.tables.specs.Entries.{Ranks, picked, Downward, Ranked, DownEntry}
+use Rattle.tables.specs.Entries.{picked, Downward, Ranked, DownEntry}
 use Rattle.numbering.specs.Walk.{Tables, ranks, given, label-in, places, started}
 use Rattle.numbering.specs.Places.{plausible-rank, feasible-rank, down-entry-of}
 use Rattle.numbering.proofs.Told.{read-rank, Visited, visited, roots-told, ranks-told}

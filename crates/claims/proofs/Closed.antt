@@ -12,7 +12,8 @@ use Rattle.chains.proofs.Plausible.{ClosedUp}
 use Rattle.chains.proofs.Feasible.{ClosedDown}
 use Rattle.tables.specs.Sets.{Has}
 use Rattle.tables.specs.Memory.{Placed}
-use Rattle.tables.specs.Entries.{Ranks, picked, Upward, Downward, UpTable, DownTable}
+use Rattle.ranks.specs.Entries.{Ranks}
+use Rattle.tables.specs.Entries.{picked, Upward, Downward, UpTable, DownTable}
 use Rattle.tables.proofs.Members.{ranked-has, rank-of}
 
 -- members of the sets of the kinds ks, by their ranks

@@ -17,10 +17,10 @@ use Rattle.chains.proofs.Feasible.{feasible-start}
 use Rattle.book.specs.Format.{kinds, prods, grammar}
 use Rattle.bookcheck.specs.Refusals as book
 use Rattle.bookcheck.proofs.Accepted as accepted
-use Rattle.ranks.specs.Entries.{choice, up-entry, down-entry, entry-bytes, none}
+use Rattle.ranks.specs.Entries.{Ranks, choice, up-entry, down-entry, entry-bytes, none}
 use Rattle.ranks.proofs.Numbers.{up-entry-below, down-entry-below}
 use Rattle.tables.specs.Sets.{Has, member, members}
-use Rattle.tables.specs.Entries.{Ranks, picked, Downward, UpTable, DownEntry, DownTable}
+use Rattle.tables.specs.Entries.{picked, Downward, UpTable, DownEntry, DownTable}
 use Rattle.tables.specs.Memory.{Fine}
 use Rattle.tables.specs.Promise.{Lent, up-entries, down-entries, Applies, of-book, BuildDue}
 use Rattle.tables.proofs.Members.{members-long}

@@ -6,14 +6,9 @@ use native.Mathlib.Nat.{mul-comm, mul-le-mul, pow-zero, pow-suc, div-add-mod'}
 use native.Mathlib.Omega.{arith}
 use lib.ListN.{length, getD}
 use Rattle.chains.specs.Grammar.{Grammar}
-use Rattle.chains.specs.Grouping.{Members}
-use Rattle.ranks.specs.Entries.{choices, choice, up-start, up-entry, down-start, down-entry}
+use Rattle.ranks.specs.Entries.{Ranks, choices, choice, up-start, up-entry, down-start, down-entry}
 use Rattle.ranks.proofs.Digits.{digit-below, digit-once, first-below, rest-below}
 use Rattle.ranks.proofs.Runs.{starts, starts-after, starts-few, run-once, run-of}
-
--- ranks rs, one for each of the kinds ks, each below its kind's count
-abbrev pub Ranks : List ℕ → List ℕ → List ℕ → Type 0
-Ranks c ks rs = Members (λ k r. r < getD c k 0) ks rs
 
 -- ── choices ──
 pub choice-below : (c ks rs : List ℕ) → Ranks c ks rs → choice c ks rs < choices c ks

@@ -1,10 +1,15 @@
 -- The numbers of the entries of the up and the down table: productions in order, within one by the ranks.
 use mathlib.Core.List.{List, [], _∷_}
-use Prim.Native.Nat.{ℕ, zero, suc, _+_, _*_}
+use Prim.Native.Nat.{ℕ, zero, suc, _+_, _*_, _<_}
 use lib.ListN.{getD}
 use Rattle.chains.specs.Grammar.{Grammar}
+use Rattle.chains.specs.Grouping.{Members}
 
 -- c has the counts of the kinds' plausible sets, d those of their feasible sets
+
+-- ranks rs, one for each of the kinds ks, each below its kind's count
+abbrev pub Ranks : List ℕ → List ℕ → List ℕ → Type 0
+Ranks c ks rs = Members (λ k r. r < getD c k 0) ks rs
 
 -- the number of choices of a plausible grouping for each of the kinds ks
 unfoldable pub choices : List ℕ → List ℕ → ℕ

@@ -7,11 +7,11 @@ use native.Mathlib.Numerals.{add-one}
 use native.Mathlib.Omega.{arith}
 use lib.ListN.{length, getD}
 use Rattle.chains.specs.Limits.{max-members}
-use Rattle.ranks.specs.Entries.{choices, choice, entry-bytes}
+use Rattle.ranks.specs.Entries.{Ranks, choices, choice, entry-bytes}
 use Rattle.ranks.proofs.Digits.{digit-once}
 use Rattle.ranks.proofs.Numbers.{choice-below}
 use Rattle.tables.specs.Sets.{member}
-use Rattle.tables.specs.Entries.{Ranks, picked}
+use Rattle.tables.specs.Entries.{picked}
 use Rattle.tables.specs.State.{spot}
 use Rattle.tables.specs.Shape.{kind-of, width-of, kinds-from, Sized}
 use Rattle.tables.specs.Fill.{Ready, tied-once, tied, InPlace, Entry, entry-size, Rankable, Laid, chosen, Choices, Asked, AllChoices, AllAsked}

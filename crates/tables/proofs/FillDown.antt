@@ -15,10 +15,10 @@ use Rattle.chains.specs.State.{code-on}
 use Rattle.book.specs.Format.{kinds, prods, entry, grammar}
 use Rattle.book.specs.Reading.{told}
 use Rattle.bookcheck.proofs.Accepted.{Accepted, told-prods}
-use Rattle.ranks.specs.Entries.{choices, down-start, down-entry, entry-bytes}
+use Rattle.ranks.specs.Entries.{Ranks, choices, down-start, down-entry, entry-bytes}
 use Rattle.ranks.proofs.Numbers.{down-start-after, down-entry-below}
 use Rattle.tables.specs.Sets.{member}
-use Rattle.tables.specs.Entries.{Ranks, picked, Downward, Labelled, DownEntry, DownTable}
+use Rattle.tables.specs.Entries.{picked, Downward, Labelled, DownEntry, DownTable}
 use Rattle.tables.specs.Promise.{down-entries, Written}
 use Rattle.tables.specs.State.{based}
 use Rattle.tables.specs.Shape.{kind-of, kinds-from, ShapeAt, Opened}

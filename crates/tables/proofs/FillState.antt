@@ -14,7 +14,8 @@ use Rattle.chains.specs.Feasible.{Chosen}
 use Rattle.book.specs.Format.{kinds, prods, entry, grammar}
 use Rattle.bookcheck.proofs.Accepted.{Accepted}
 use Rattle.tables.specs.Sets.{member, Holds}
-use Rattle.tables.specs.Entries.{Ranks, picked, Ranked}
+use Rattle.ranks.specs.Entries.{Ranks}
+use Rattle.tables.specs.Entries.{picked, Ranked}
 use Rattle.tables.specs.Memory.{Fine}
 use Rattle.tables.specs.State.{based}
 use Rattle.tables.specs.Shape.{ShapeAt, Sized, AllPlaced}

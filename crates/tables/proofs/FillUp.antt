@@ -16,9 +16,9 @@ use Rattle.chains.proofs.Plausible.{plausible-sound}
 use Rattle.book.specs.Format.{kinds, prods, entry, grammar}
 use Rattle.book.specs.Reading.{told}
 use Rattle.bookcheck.proofs.Accepted.{Accepted, told-prods}
-use Rattle.ranks.specs.Entries.{choices, choice, up-start, up-entry, none}
+use Rattle.ranks.specs.Entries.{Ranks, choices, choice, up-start, up-entry, none}
 use Rattle.ranks.proofs.Numbers.{ranks-of, ranks-of-below, choice-ranks-of, up-start-after, up-entry-once, up-entry-below}
-use Rattle.tables.specs.Entries.{Ranks, picked, Upward, Ranked, UpTable}
+use Rattle.tables.specs.Entries.{picked, Upward, Ranked, UpTable}
 use Rattle.tables.specs.Promise.{up-entries, Written}
 use Rattle.tables.specs.State.{based}
 use Rattle.tables.specs.Shape.{kinds-from, ShapeAt, Opened}

@@ -10,15 +10,11 @@ use Rattle.lists.specs.Part.{part}
 use Rattle.chains.specs.Limits.{max-kids}
 use Rattle.chains.specs.Grammar.{Occ, Grammar, width, Exists}
 use Rattle.chains.specs.Chain.{Slotwise, Closure}
-use Rattle.chains.specs.Grouping.{Says, Proper, Each, Members}
+use Rattle.chains.specs.Grouping.{Says, Proper, Each}
 use Rattle.chains.specs.Feasible.{Chosen}
 use Rattle.book.specs.Format.{occ}
-use Rattle.ranks.specs.Entries.{up-entry, down-entry, labels, entry-bytes, none}
+use Rattle.ranks.specs.Entries.{Ranks, up-entry, down-entry, labels, entry-bytes, none}
 use Rattle.tables.specs.Sets.{member}
-
--- ranks rs, one for each of the kinds ks, each below its kind's count
-abbrev pub Ranks : List ℕ → List ℕ → List ℕ → Type 0
-Ranks c ks rs = Members (λ k r. r < getD c k 0) ks rs
 
 -- the groupings that they stand for
 unfoldable pub picked : List ℕ → List ℕ → List ℕ → List ℕ

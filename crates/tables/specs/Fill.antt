@@ -9,9 +9,9 @@ use Rattle.chains.specs.Limits.{max-kids}
 use Rattle.chains.specs.Grammar.{Grammar, width}
 use Rattle.chains.specs.Labels.{joins}
 use Rattle.chains.specs.State.{code-pairs, code-on}
-use Rattle.ranks.specs.Entries.{choices, choice, up-entry, down-entry, labels, entry-bytes, none}
+use Rattle.ranks.specs.Entries.{Ranks, choices, choice, up-entry, down-entry, labels, entry-bytes, none}
 use Rattle.tables.specs.Sets.{Has, member}
-use Rattle.tables.specs.Entries.{Ranks, picked, Upward, Downward, Ranked, DownEntry}
+use Rattle.tables.specs.Entries.{picked, Upward, Downward, Ranked, DownEntry}
 use Rattle.tables.specs.State.{State, Whole, tidied}
 use Rattle.tables.specs.Shape.{kind-of, width-of, kinds-from, Sized, AllPlaced}
 use Rattle.tables.specs.declared.shape.Shape.{Shape}
