@@ -6,18 +6,8 @@ use crate::plan::Plan;
 use crate::requests::{framed, number_request, request};
 use crate::sheets;
 use crate::tables::built;
+use oracle::book::FIG_1;
 use oracle::walk::Tables;
-
-/// The article's Fig. 1, settings in the order jk, abcd, efgh.
-const FIG_1: [u8; 66] = [
-    2, 0, 4, 5, 4, 5, // kinds
-    0, 1, 1, 2, 0, 9, 1, 11, // P0
-    1, 1, 2, 4, 1, 9, 3, 11, 8, 0, 10, 2, // P1
-    1, 1, 2, 5, 1, 9, 3, 9, 3, 11, 8, 0, 10, 2, // P2
-    2, 0, 2, 1, 0, 3, 2, // P3
-    2, 0, 2, 1, 2, 3, 0, // P4
-    1, 0, 3, 0, 5, 0, 0, 0, 54, 0, 48, 0, // trailer
-];
 
 /// Fig. 1 with one byte changed.
 fn but(at: usize, byte: u8) -> Vec<u8> {

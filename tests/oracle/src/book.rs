@@ -3,6 +3,17 @@
 use crate::faults::{limit, wrong};
 use crate::refusal::{refuse, Refusal};
 
+/// The article's Fig. 1, settings in the order jk, abcd, efgh.
+pub const FIG_1: [u8; 66] = [
+    2, 0, 4, 5, 4, 5, // kinds
+    0, 1, 1, 2, 0, 9, 1, 11, // P0
+    1, 1, 2, 4, 1, 9, 3, 11, 8, 0, 10, 2, // P1
+    1, 1, 2, 5, 1, 9, 3, 9, 3, 11, 8, 0, 10, 2, // P2
+    2, 0, 2, 1, 0, 3, 2, // P3
+    2, 0, 2, 1, 2, 3, 0, // P4
+    1, 0, 3, 0, 5, 0, 0, 0, 54, 0, 48, 0, // trailer
+];
+
 #[derive(Clone, Debug)]
 pub struct Kind {
     pub settings: usize,

@@ -1,8 +1,8 @@
 //! Deliberate faults. With the feature `faults` the variable ORACLE_FAULT names the one that is
 //! made; without it none can be.
 
-/// All faults, each a slip that an implementer might make.
-pub const NAMES: &[&str] = &[
+/// Slips that an implementer might make in the two checks, which C calls too.
+pub const IN_CHECKS: &[&str] = &[
     "edition-byte",
     "start-as-child",
     "equal-pairs",
@@ -11,6 +11,20 @@ pub const NAMES: &[&str] = &[
     "leftover",
     "leftover-22",
     "level-first",
+    "kinds-less",
+    "kinds-more",
+    "productions-less",
+    "productions-more",
+    "children-less",
+    "children-more",
+    "levels-less",
+    "levels-more",
+    "sheet-less",
+    "sheet-more",
+];
+
+/// Those that one might make elsewhere.
+const ELSEWHERE: &[&str] = &[
     "own-direction",
     "only-neighbours",
     "falling-ranks",
@@ -38,18 +52,8 @@ pub const NAMES: &[&str] = &[
     "room-for-4096-nodes",
     "nine-after-sheet",
     "room-after-tables",
-    "kinds-less",
-    "kinds-more",
-    "productions-less",
-    "productions-more",
-    "children-less",
-    "children-more",
     "members-less",
     "members-more",
-    "levels-less",
-    "levels-more",
-    "sheet-less",
-    "sheet-more",
     "count-less",
     "count-more",
     "input-less",
@@ -62,34 +66,17 @@ pub const NAMES: &[&str] = &[
     "node-room-more",
 ];
 
-/// Those among them that stand in the two checks, which C calls.
-pub const IN_CHECKS: &[&str] = &[
-    "edition-byte",
-    "start-as-child",
-    "equal-pairs",
-    "pairs-before-kinds",
-    "early-end-place",
-    "leftover",
-    "leftover-22",
-    "level-first",
-    "kinds-less",
-    "kinds-more",
-    "productions-less",
-    "productions-more",
-    "children-less",
-    "children-more",
-    "levels-less",
-    "levels-more",
-    "sheet-less",
-    "sheet-more",
-];
+/// All of them.
+pub fn names() -> Vec<&'static str> {
+    [IN_CHECKS, ELSEWHERE].concat()
+}
 
 /// Whether the fault of this name is to be made.
 #[cfg(feature = "faults")]
 pub fn wrong(name: &str) -> bool {
     use std::sync::OnceLock;
     static CHOSEN: OnceLock<String> = OnceLock::new();
-    debug_assert!(NAMES.contains(&name), "{name} is not listed");
+    debug_assert!(names().contains(&name), "{name} is not listed");
     CHOSEN.get_or_init(|| std::env::var("ORACLE_FAULT").unwrap_or_default()) == name
 }
 

@@ -14,7 +14,7 @@ fn main() {
         Some("groups") => oracle::groups::groups(&input()),
         Some("trial") => oracle::trial::answers(&input(), oracle::trial::answer),
         Some("checks") => oracle::trial::answers(&input(), oracle::trial::check_answer),
-        Some("faults") => oracle::faults::NAMES.join("\n") + "\n",
+        Some("faults") => oracle::faults::names().join("\n") + "\n",
         Some("check-faults") => oracle::faults::IN_CHECKS.join("\n") + "\n",
         _ => {
             eprintln!("usage: oracle groups|trial|checks|faults|check-faults");

@@ -1,21 +1,10 @@
 //! Document 01's "Examples to hold against it".
 
-use oracle::book::check_book;
+use oracle::book::{check_book, FIG_1};
 use oracle::build::{build, Lent};
 use oracle::groups::groups;
 use oracle::passes::sets;
 use oracle::ties::code_of;
-
-/// The article's Fig. 1, settings in the order jk, abcd, efgh.
-const FIG_1: [u8; 66] = [
-    2, 0, 4, 5, 4, 5, // kinds
-    0, 1, 1, 2, 0, 9, 1, 11, // P0
-    1, 1, 2, 4, 1, 9, 3, 11, 8, 0, 10, 2, // P1
-    1, 1, 2, 5, 1, 9, 3, 9, 3, 11, 8, 0, 10, 2, // P2
-    2, 0, 2, 1, 0, 3, 2, // P3
-    2, 0, 2, 1, 2, 3, 0, // P4
-    1, 0, 3, 0, 5, 0, 0, 0, 54, 0, 48, 0, // trailer
-];
 
 fn input(sheet: &[u8], book: &[u8]) -> Vec<u8> {
     [&(sheet.len() as u16).to_le_bytes(), sheet, book].concat()
