@@ -4,6 +4,9 @@ pub const NODES: usize = sheet::limits::MAX_NODES;
 
 pub const PRODUCTIONS: usize = book::limits::MAX_PRODUCTIONS as usize;
 
+// Occurrence numbers to a slot.
+pub const SETTINGS: usize = book::limits::MAX_SETTINGS as usize;
+
 // Members of a plausible or a feasible set.
 pub const MEMBERS: u8 = 64;
 

@@ -11,6 +11,7 @@ ghost use Rattle.numbering.specs.Giving.{labels-known, Firsts, Held-one,
 use super::limits::LABELS;
 use super::limits::NODES;
 use super::limits::PRODUCTIONS;
+use super::limits::SETTINGS;
 
 // The number of settings of the left kind of production p.
 fn own_width(book: &[u8], places: &[usize; PRODUCTIONS], p: u8) -> u8
@@ -104,7 +105,7 @@ fn number_slot(
     let mut next = first;
     let mut a = 0;
     while a < width as usize {
-        let label = ranks::label(down, entry, slot as usize * 8 + a);
+        let label = ranks::label(down, entry, slot as usize * SETTINGS + a);
         let fresh = hold(label, next, stamp, stamps, held);
         groups[at as usize + a] = held[label as usize];
         next += fresh;
