@@ -1,4 +1,4 @@
-// The limits that the paper sets on a book, in one place.
+// The limits that the paper sets on a book and on what is built from it, in one place.
 
 // Bytes of the trailer.
 pub const TRAILER: usize = 12;
@@ -16,3 +16,6 @@ pub const MAX_PRODUCTIONS: u16 = 64;
 pub const MAX_SETTINGS: u8 = 8;
 
 pub const MAX_CHILDREN: u8 = 4;
+
+// Members of a plausible or a feasible set.
+pub const MAX_MEMBERS: u8 = 64;

@@ -63,8 +63,16 @@ due-refused b n p c a first = ((n, p), refl, refl, (a, sooner))
     sooner (m, q) (inr (e, inl l)) x = first q l (rw e at x)
     sooner (m, q) (inr (e, inr never)) x = never .1
 
-after-last : (b : List ℕ) (n p : ℕ) → 8 < n → Applies b n p → ⊥
-after-last b n p h a = let z : n ≡ suc (suc (suc (suc (suc (suc (suc (suc (suc (n - 9))))))))) = omega arith in says (rw z at a)
+-- the table ends with row 8
+pub row-of-book : {b : List ℕ} {n p : ℕ} → Applies b n p → n < 9
+row-of-book (short h) = omega arith
+row-of-book (other-edition h) = omega arith
+row-of-book (out-of-range h) = omega arith
+row-of-book (not-laid h) = omega arith
+row-of-book (bad-kind k l h) = omega arith
+row-of-book (bad-kids p l h) = omega arith
+row-of-book (bad-ties p l h) = omega arith
+row-of-book (headless k l h) = omega arith
 
 module _ (b : List ℕ) where
   pub due-1 : length b < 12 → BookDue b (refused 1 0)
@@ -127,4 +135,4 @@ module _ (b : List ℕ) where
 
                     last : (f : ℕ × ℕ) → Dec (f .0 < 9) → Applies b (f .0) (f .1) → ⊥
                     last f (yes l) a = clear-8 (f .0) (f .1) l a
-                    last f (no l) a = after-last b (f .0) (f .1) (omega arith) a
+                    last f (no l) a = let h = row-of-book a in omega arith

@@ -14,7 +14,8 @@ use Rattle.chains.proofs.WellKinded.{kinded-count}
 use Rattle.book.specs.Format.{grammar}
 use Rattle.sheet.specs.Reading.{settings-of}
 use Rattle.sheet.specs.Refusals.{SheetDue}
-use Rattle.sheet.proofs.Refusals.{Row, books, lengths, reads, row, book-low, fault-low}
+use Rattle.sheet.proofs.Refusals.{Row, books, lengths, reads, row, fault-low}
+use Rattle.bookcheck.proofs.Rows.{row-of-book}
 use Rattle.sheet.proofs.Trees.{sheet-tree}
 use Rattle.ranks.proofs.Numbers.{up-entry-below, down-entry-below}
 use Rattle.tables.specs.Promise as tables
@@ -67,7 +68,7 @@ module _ {G : Grammar} (L : Lawful G) {s f : List ℕ} {T : Tables} (served : Se
 
 -- ── which rows there are before 25 ──
 sheet-row : {b l : List ℕ} {n p : ℕ} → Row b l n p → n < 24
-sheet-row (books a) = let h = book-low a in omega arith
+sheet-row (books a) = let h = row-of-book a in omega arith
 sheet-row (lengths e f h) = omega arith
 sheet-row (reads ds r f) = fault-low f
 

@@ -3,7 +3,7 @@
 // Sets and counts for every kind that a book can have.
 pub const KINDS: usize = book::limits::MAX_KINDS as usize;
 
-pub const SET_PLACES: usize = 64 * KINDS;
+pub const SET_PLACES: usize = book::limits::MAX_MEMBERS as usize * KINDS;
 
 pub const UP_ENTRIES: usize = 8192;
 

@@ -8,7 +8,7 @@ ghost use Rattle.bookcheck.specs.Search.{Tells};
 ghost use Rattle.bookcheck.proofs.Accepted.{Accepted};
 ghost use Rattle.numbering.specs.Walk.{tables};
 ghost use Rattle.numbering.specs.Promise.{BigCount};
-use super::limits::MEMBERS;
+use book::limits::MAX_MEMBERS;
 
 // Whether one of the first n counts is.
 fn over(counts: &[u8], n: usize) -> bool
@@ -17,7 +17,7 @@ fn over(counts: &[u8], n: usize) -> bool
 {
     let mut k = 0;
     while k < n {
-        if MEMBERS < counts[k] {
+        if MAX_MEMBERS < counts[k] {
             return true;
         }
         k += 1;

@@ -7,9 +7,6 @@ pub const PRODUCTIONS: usize = book::limits::MAX_PRODUCTIONS as usize;
 // Occurrence numbers to a slot.
 pub const SETTINGS: usize = book::limits::MAX_SETTINGS as usize;
 
-// Members of a plausible or a feasible set.
-pub const MEMBERS: u8 = 64;
-
 // A label is any byte.
 pub const LABELS: usize = 256;
 

@@ -2,6 +2,7 @@
 use mathlib.Core.List.{List, [], _∷_}
 use Prim.Native.Nat.{ℕ, zero, suc, _+_, _*_, _<_}
 use lib.ListN.{getD}
+use Rattle.chains.specs.Limits.{max-kids, max-settings}
 use Rattle.chains.specs.Grammar.{Grammar}
 use Rattle.chains.specs.Grouping.{Members}
 
@@ -42,10 +43,10 @@ down-entry G c d p f rs = down-start G c d p + (f * choices c (G .kids p) + choi
 
 -- a down entry's bytes: a label for each occurrence, then a feasible rank for each child
 abbrev pub labels : ℕ
-labels = 40
+labels = suc max-kids * max-settings
 
 abbrev pub entry-bytes : ℕ
-entry-bytes = 44
+entry-bytes = labels + max-kids
 
 -- the absence of a label or a rank
 abbrev pub none : ℕ

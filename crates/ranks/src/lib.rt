@@ -7,11 +7,11 @@ ghost use Rattle.ranks.specs.Entries.{choices, choice, entry-bytes, none
 ghost use Rattle.ranks.specs.Reads.{up-said, down-said, numbers, places, up-number, down-number, UpFinds, DownFinds, entry-at, label-at, child-rank-at};
 
 // The children of a production, and a down entry: a label for each occurrence, then a rank for each child.
-pub const KIDS: usize = 4;
+pub const KIDS: usize = book::limits::MAX_CHILDREN as usize;
 
-pub const LABELS: usize = 40;
+pub const LABELS: usize = (1 + KIDS) * book::limits::MAX_SETTINGS as usize;
 
-pub const ENTRY: usize = 44;
+pub const ENTRY: usize = LABELS + KIDS;
 
 // The absence of a label or a rank.
 pub const NONE: u8 = 255;

@@ -175,7 +175,7 @@ fn accepted(
 ) {
     let kinds = book::kinds(book) as usize;
     let used = Used {
-        places: kinds * 64,
+        places: kinds * book::limits::MAX_MEMBERS as usize,
         kinds,
         up: ups as usize,
         down: end(downs),

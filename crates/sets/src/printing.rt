@@ -1,5 +1,6 @@
 // Sets and tables, a line each.
 use super::memory::filled32;
+use book::limits::MAX_MEMBERS;
 
 pub fn number(n: u64) {
     io::write_all(1, b" ");
@@ -58,8 +59,8 @@ fn grouping(name: &[u8], word: &[u8], letters: &[u8], set: &[u32], k: usize, cou
     if 32 <= k {
         return;
     }
-    let from = k * 64;
-    let to = from + 64;
+    let from = k * MAX_MEMBERS as usize;
+    let to = from + MAX_MEMBERS as usize;
     if set.len() < to {
         return;
     }

@@ -12,6 +12,7 @@ use Rattle.chains.specs.Limits.{max-nodes}
 use Rattle.chains.specs.Grammar.{Grammar}
 use Rattle.book.specs.Format.{grammar}
 use Rattle.bookcheck.specs.Refusals as book
+use Rattle.bookcheck.proofs.Rows.{row-of-book}
 use Rattle.sheet.specs.Reading.{Node, Read, settings-of}
 use Rattle.sheet.specs.Refusals.{Applies, of-book, bad-length, no-production, other-kind, ends-early, bytes-left, too-deep, turn, SheetDue}
 use Rattle.sheet.specs.Stops.{Fault, unknown, unfit, deep, Stop}
@@ -42,16 +43,6 @@ fault-applies {p = p} {ds = []} r (deep u) = absurd u
 fault-applies {p = p} {ds = d ∷ ds} r (deep u) = too-deep p (d .0) (d .1) ds r (u .0) (u .1)
 
 -- ── numbers and turns ──
-pub book-low : {b : List ℕ} {n p : ℕ} → book.Applies b n p → n < 9
-book-low (book.short h) = omega arith
-book-low (book.other-edition h) = omega arith
-book-low (book.out-of-range h) = omega arith
-book-low (book.not-laid h) = omega arith
-book-low (book.bad-kind k h q) = omega arith
-book-low (book.bad-kids p h q) = omega arith
-book-low (book.bad-ties p h q) = omega arith
-book-low (book.headless k h q) = omega arith
-
 pub fault-high : {G : Grammar} {l : List ℕ} {i n : ℕ} {ds : List Node} → Fault G l i ds n → 20 < n
 fault-high (unknown u) = omega arith
 fault-high (unfit u) = omega arith
@@ -113,12 +104,12 @@ ended h (deep u) = u
 
 -- refusals 1 to 8 come before all that the sheet can give
 pub book-refused : {b : List ℕ} (l : List ℕ) {n p : ℕ} → book.BookDue b (refused n p) → SheetDue b l (refused n p)
-book-refused {b} l {n} {p} ((m, q), en, ep, (a, first)) = ((m, q), en, ep, (of-book a, λ j s r. before j (sooner-low (j .0) (j .1) m q (omega (arith, book-low a)) s) (row r)))
+book-refused {b} l {n} {p} ((m, q), en, ep, (a, first)) = ((m, q), en, ep, (of-book a, λ j s r. before j (sooner-low (j .0) (j .1) m q (omega (arith, row-of-book a)) s) (row r)))
   where
     before : (j : ℕ × ℕ) → Sooner (j .0 ∷ j .1 ∷ []) (m ∷ q ∷ []) → Row b l (j .0) (j .1) → ⊥
     before j s (books r) = first j s r
-    before j s (lengths x y h) = omega (arith, sooner-most (j .0) (j .1) m q s, book-low a)
-    before j s (reads ds r f) = omega (arith, sooner-most (j .0) (j .1) m q s, book-low a, fault-high f)
+    before j s (lengths x y h) = omega (arith, sooner-most (j .0) (j .1) m q s, row-of-book a)
+    before j s (reads ds r f) = omega (arith, sooner-most (j .0) (j .1) m q s, row-of-book a, fault-high f)
 
 right-length : (l : List ℕ) → 0 < length l → length l ≤ max-nodes → (length l ≡ 0) ⊎ (max-nodes < length l) → ⊥
 right-length l some few (inl h) = omega arith

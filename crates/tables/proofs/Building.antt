@@ -11,6 +11,7 @@ use lib.ListN.{length}
 use Rattle.lists.specs.Refusals.{Said, accepted, refused, Sooner, First}
 use Rattle.book.specs.Format.{kinds}
 use Rattle.bookcheck.specs.Refusals as rows
+use Rattle.bookcheck.proofs.Rows.{row-of-book}
 use Rattle.bookcheck.specs.declared.Checked.{Checked}
 use Rattle.bookcheck.specs.declared.Checked.the-variants as checks
 use Rattle.bookcheck.specs.Answer as checked
@@ -59,16 +60,6 @@ pub measured-roomy : {n a b c d : ℕ} → Roomy n a b c d → Measured n a b c 
 measured-roomy r = record { short = λ e. let z : _≡_ {A = ℕ} 0 1 = cc in absurd (omega arith); roomy = λ e. r }
 
 -- ── the check of the book refuses ──
-book-row : {b : List ℕ} {n p : ℕ} → rows.Applies b n p → n < 9
-book-row (rows.short h) = omega arith
-book-row (rows.other-edition h) = omega arith
-book-row (rows.out-of-range h) = omega arith
-book-row (rows.not-laid h) = omega arith
-book-row (rows.bad-kind k h l) = omega arith
-book-row (rows.bad-kids p h l) = omega arith
-book-row (rows.bad-ties p h l) = omega arith
-book-row (rows.headless k h l) = omega arith
-
 -- a row of the build that is not later than one of the book is of the book
 sooner-row : {n p n′ p′ : ℕ} → Sooner (rows.turn (n, p)) (rows.turn (n′, p′)) → n ≤ n′
 sooner-row (inl h) = omega arith
@@ -83,13 +74,13 @@ early-row h (short-up c a l) = absurd (omega arith)
 early-row h (short-down c d a a′ l) = absurd (omega arith)
 
 first-of-book : {b : List ℕ} {m : Lent} (n p : ℕ) → First rows.turn (λ f. rows.Applies b (f .0) (f .1)) (n, p) → FirstDue b m n p
-first-of-book n p (a, before) = (of-book a, λ j s u. let l = sooner-row s in let h = book-row a in before j s (early-row (omega arith) u))
+first-of-book n p (a, before) = (of-book a, λ j s u. let l = sooner-row s in let h = row-of-book a in before j s (early-row (omega arith) u))
 
 -- THEOREM: refusals 1 to 8 are those of the check, and leave the memory as it came
 pub refused-book : (b : List ℕ) (m : Lent) (n p : ℕ) → rows.BookDue b (refused n p) → BuildDue b m (refused n p) m
 refused-book b m n p ((n′, p′), e, e′, f) =
     let g : First rows.turn (λ f. rows.Applies b (f .0) (f .1)) (n, p) = rw (← e, ← e′) f in
-    (first-of-book n p g, left-early n m (book-row (g .0)))
+    (first-of-book n p g, left-early n m (row-of-book (g .0)))
 
 -- ── the check accepts ──
 module _ {b : List ℕ} {x y : ℕ} (due : rows.BookDue b (accepted (x ∷ y ∷ []))) where

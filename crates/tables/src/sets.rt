@@ -11,7 +11,7 @@ ghost use Rattle.tables.specs.Memory.{Placed, Search, Seen, Put};
 use super::widen::narrow;
 use super::widen::wide;
 
-pub const MAX_MEMBERS: usize = 64;
+pub const MAX_MEMBERS: usize = book::limits::MAX_MEMBERS as usize;
 
 // What an attempt to add to the sets has come to.
 pub enum Turn {
