@@ -3,6 +3,7 @@ use mathlib.Core.Path.{_≡_, sym, _∙_}
 use Rattle.bookcheck.proofs.Once as book
 use Rattle.book.proofs.Places.{index-once}
 use Rattle.sheet.proofs.Once as sheet
+use Rattle.admission.proofs.Once.{admit-once}
 use Rattle.service.proofs.Word.{book-word-once, sheet-word-once}
 use Rattle.ranks.proofs.Finds.{read-up-once, read-down-once, child-rank-once, label-once, started-once}
 use Rattle.tables.specs.declared.Built.{Built}
@@ -52,5 +53,6 @@ one-outcome = record {
   child-rank = child-rank-once;
   label = label-once;
   started = started-once;
+  admit = admit-once;
   group-sheet = λ b l T m r s m₁ m₂ d e. let (a, k) = call-once b l T m (call-answer.said r) (call-answer.said s) m₁ m₂ d e in (grouping-once r s a, k);
 }

@@ -11,6 +11,9 @@ use Rattle.book.specs.Reading.{Index}
 use Rattle.sheet.specs.declared.SheetChecked.{SheetChecked}
 use Rattle.sheet.specs.Answer as sheet-answer
 use Rattle.sheet.specs.Refusals.{SheetDue}
+use Rattle.admission.specs.declared.Admission.{Admission}
+use Rattle.admission.specs.Answer as admission-answer
+use Rattle.admission.specs.Refusals.{Lengths, AdmissionDue}
 use Rattle.service.specs.Word.{Spoken}
 use Rattle.ranks.specs.declared.Plausible.{Plausible}
 use Rattle.ranks.specs.declared.Feasible.{Feasible}
@@ -54,6 +57,8 @@ pub record OneOutcome : Type 0 where
   pub child-rank : (down : List ℕ) (e j : ℕ) (r s : Feasible) → r .0 ≡ child-rank-at down e j → s .0 ≡ child-rank-at down e j → r ≡ s
   pub label : (down : List ℕ) (e o x y : ℕ) → x ≡ label-at down e o → y ≡ label-at down e o → x ≡ y
   pub started : (p : Plausible) (r s : Feasible) → r .0 ≡ p .0 → s .0 ≡ p .0 → r ≡ s
+  -- what is decided of a sheet call by lengths
+  pub admit : (b l : List ℕ) (m : Lengths) (r s : Admission) → AdmissionDue b l m (admission-answer.said r) → AdmissionDue b l m (admission-answer.said s) → r ≡ s
   -- the sheet call, with two lent slices
   pub group-sheet : (b l : List ℕ) (T : Tables) (m : numbering.Lent) (r s : Grouping) (m₁ m₂ : numbering.Lent)
       → numbering.CallDue b l T m (call-answer.said r) m₁ → numbering.CallDue b l T m (call-answer.said s) m₂ → (r ≡ s) × (m₁ ≡ m₂)

@@ -25,6 +25,5 @@ pub mod Filling
 pub mod Turns
 pub mod Due
 pub mod Choosing
-pub mod Measured
 pub mod Settled
 pub mod Words

@@ -11,27 +11,26 @@ use Rattle.bookcheck.specs.Search.{Tells}
 use Rattle.bookcheck.proofs.Accepted.{Accepted}
 use Rattle.sheet.specs.Reading.{settings-of}
 use Rattle.sheet.proofs.Accepted.{book-accepted}
+use Rattle.admission.specs.Refusals.{AdmissionDue}
+use Rattle.admission.specs.Answer as admission-answer
+use Rattle.admission.specs.declared.Admission.{Admission}
+use Rattle.admission.specs.declared.Admission.the-variants.{Admitted, Refused}
 use Rattle.numbering.specs.Walk.{Tables, tables}
 use Rattle.numbering.specs.Promise.{Lent, lent, BigCount, Grouped, CallDue}
 use Rattle.numbering.specs.Parts.{Indexed, ChoiceIs, Choice}
 use Rattle.numbering.specs.Giving.{Walkable, Filled}
-use Rattle.numbering.specs.Admitting.{Clear, AdmissionIs, Admits}
-use Rattle.numbering.specs.declared.admission.Admission.{Admission}
-use Rattle.numbering.specs.declared.admission.Admission.the-variants.{Admitted, Refused}
+use Rattle.numbering.specs.Admitting.{measures, Clear}
 use Rattle.numbering.specs.declared.upward.Reads.{Reads}
 use Rattle.numbering.specs.declared.upward.Reads.the-variants.{All, Bad}
-use Rattle.numbering.proofs.Due.{tree-of, refuses-big, refuses-read, nothing-applies}
+use Rattle.numbering.proofs.Due.{tree-of, refuses-early, refuses-nothing, refuses-big, refuses-read, nothing-applies}
 
--- what the admission comes to, for the slices that it measured
-module _ {b l : List ℕ} (T : Tables) (m : Lent) {r : Admission} (a : Admits b l (length (T .plausible-counts)) (length (T .feasible-counts)) (length (m .nodes)) (length (m .groups)) r) where
-  is-said : AdmissionIs b l T m r
-  is-said = a .case T m refl refl refl refl
-
+-- what the admission said of the slices that it measured
+module _ {b l : List ℕ} (T : Tables) (m : Lent) {r : Admission} (due : AdmissionDue b l (measures T m) (admission-answer.said r)) where
   pub let-in : {n s : ℕ} → r ≡ Admitted n s → Clear b l T m × (n ≡ length l) × (s ≡ settings-of (grammar b) l)
-  let-in e = subst (AdmissionIs b l T m) e is-said
+  let-in e = refuses-nothing (subst (λ (x : Admission). AdmissionDue b l (measures T m) (admission-answer.said x)) e due)
 
   pub kept-out : {n p : ℕ} → r ≡ Refused n p → CallDue b l T m (refused n p) m
-  kept-out e = (subst (AdmissionIs b l T m) e is-said, refl)
+  kept-out e = (refuses-early (subst (λ (x : Admission). AdmissionDue b l (measures T m) (admission-answer.said x)) e due), refl)
 
 module _ {b l : List ℕ} {T : Tables} {m : Lent} (clear : Clear b l T m) where
   pub clear-book : Accepted b

@@ -1,5 +1,4 @@
 // The sheet call: refusals 1 to 9 and 20 to 25, a rank of each kind and a down entry for every node, and a group number for every setting.
-mod admission;
 mod choice;
 mod counts;
 mod downward;
@@ -15,7 +14,6 @@ ghost use Rattle.numbering.specs.Walk.{tables};
 ghost use Rattle.numbering.specs.Promise.{lent, CallDue};
 ghost use Rattle.numbering.specs.Answer.{said};
 use admission::Admission;
-use admission::admit;
 use settling::settle;
 
 // What the sheet call answers: the numbers of nodes, settings and groups, or the first refusal that applies.
@@ -46,7 +44,7 @@ pub fn group_sheet(
     ensures { λ r. ⌜ CallDue (now (book .entry)) (now (sheet .entry)) (tables (now («plausible_counts» .entry)) (now («feasible_counts» .entry)) (now (up .entry)) (now (down .entry)))
         (lent (now (nodes .entry)) (now (groups .entry))) (said r) (lent (now (nodes .exit)) (now (groups .exit))) ⌝ }
 {
-    match admit(
+    match admission::admit(
         book,
         sheet,
         plausible_counts.len(),

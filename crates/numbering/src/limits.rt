@@ -9,6 +9,3 @@ pub const SETTINGS: usize = book::limits::MAX_SETTINGS as usize;
 
 // A label is any byte.
 pub const LABELS: usize = 256;
-
-// Places of the node slice for each node: plausible rank, feasible rank, down entry.
-pub const PLACES: usize = 3;

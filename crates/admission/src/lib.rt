@@ -1,15 +1,18 @@
-// What is decided before a table is read: refusals 1 to 9 and 20 to 24, by book, sheet and lengths alone.
-ghost use mathlib.Core.Logic.{_⊎_};
+// What is decided of a sheet call before a table is read: refusals 1 to 9 and 20 to 24, by book, sheet and lengths alone.
+// Nothing is borrowed here that could be written.
 ghost use mathlib.Core.List.{[], _∷_};
-ghost use Prim.Native.Nat.{_<_};
-ghost use Rattle.book.specs.Reading.{told};
-ghost use Rattle.bookcheck.specs.Search.{Tells};
 ghost use Rattle.lists.specs.Refusals.{accepted};
+ghost use Rattle.bookcheck.specs.Search.{Tells};
+ghost use Rattle.bookcheck.proofs.Accepted.{Accepted};
 ghost use Rattle.sheet.specs.Refusals.{SheetDue};
-ghost use Rattle.numbering.specs.Admitting.{Admits};
-use super::limits::PLACES;
+ghost use Rattle.admission.specs.Answer.{said};
+ghost use Rattle.admission.specs.Refusals.{lengths, ShortCounts, AdmissionDue};
 use sheet::SheetChecked;
 
+// Places of the node slice for each node: plausible rank, feasible rank, down entry.
+const PLACES: usize = 3;
+
+// What the admission answers: the numbers of nodes and settings, or the first refusal that applies.
 pub enum Admission {
     Admitted { nodes: u16, settings: u16 },
     Refused { number: u8, place: u16 },
@@ -17,7 +20,8 @@ pub enum Admission {
 
 // Whether a count slice is shorter than the number of kinds.
 fn too_short(book: &[u8], plausible: usize, feasible: usize) -> bool
-    ensures { λ r. ⌜ Tells ((plausible < told (now (book .entry)) 1) ⊎ (feasible < told (now (book .entry)) 1)) r ⌝ }
+    requires { ⌜ Accepted (now book) ⌝ }
+    ensures { λ r. ⌜ Tells (ShortCounts (now (book .entry)) plausible feasible) r ⌝ }
 {
     let n = book::kinds(book) as usize;
     if plausible < n {
@@ -38,7 +42,7 @@ fn measure(
     settings: u16,
 ) -> Admission
     requires { ⌜ SheetDue (now book) (now sheet) (accepted (count ∷ settings ∷ [])) ⌝ }
-    ensures { λ r. ⌜ Admits (now (book .entry)) (now (sheet .entry)) plausible feasible nodes groups r ⌝ }
+    ensures { λ r. ⌜ AdmissionDue (now (book .entry)) (now (sheet .entry)) (lengths plausible feasible nodes groups) (said r) ⌝ }
 {
     if too_short(book, plausible, feasible) {
         return Admission::Refused {
@@ -73,7 +77,7 @@ pub fn admit(
     nodes: usize,
     groups: usize,
 ) -> Admission
-    ensures { λ r. ⌜ Admits (now (book .entry)) (now (sheet .entry)) plausible feasible nodes groups r ⌝ }
+    ensures { λ r. ⌜ AdmissionDue (now (book .entry)) (now (sheet .entry)) (lengths plausible feasible nodes groups) (said r) ⌝ }
 {
     match sheet::check_sheet(book, sheet) {
         SheetChecked::Accepted {

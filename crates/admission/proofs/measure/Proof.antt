@@ -1,14 +1,14 @@
 -- Each exit has its own law.
 use native.Mathlib.Omega.{arith}
-use Rattle.numbering.proofs.Measured.{measured-short, measured-nodes, measured-groups, measured-well}
-use Rattle.numbering.proofs.admission.measure.Statement.{statement}
-use Rattle.numbering.proofs.admission.measure.Tie as tie
-use Rattle.numbering.proofs.admission.measure.Reads as reads
-use Rattle.numbering.proofs.admission.measure.Lts as lts
-use Rattle.numbering.proofs.admission.too_short.Reads as too-short-reads
+use Rattle.admission.proofs.Measured.{accepted-book-of, measured-short, measured-nodes, measured-groups, measured-well}
+use Rattle.admission.proofs.measure.Statement.{statement}
+use Rattle.admission.proofs.measure.Tie as tie
+use Rattle.admission.proofs.measure.Reads as reads
+use Rattle.admission.proofs.measure.Lts as lts
+use Rattle.admission.proofs.too_short.Reads as too-short-reads
 
 too-short-requires : tie.Need-too-short-requires
-too-short-requires c κs = tt
+too-short-requires c κs = accepted-book-of (c .before .before .pre)
 
 returns : tie.Need-returns
 returns c = measured-short (c .before .before .before .before .pre) _ _ _ _ (c .before .too-short .ensures) (c .if1 .taken)

@@ -1,0 +1,4 @@
+pub mod Turns
+pub mod Due
+pub mod Measured
+pub mod Once
