@@ -49,15 +49,18 @@ long-enough {n} {m} h = go (decLe m n)
 pub refuses-nothing : {b l : List ℕ} {T : Tables} {m : Lent} {n s : ℕ} → admission.AdmissionDue b l (measures T m) (accepted (n ∷ s ∷ []))
     → Clear b l T m × (n ≡ length l) × (s ≡ settings-of (grammar b) l)
 refuses-nothing {b} {l} {T} {m} {n} {s} (e, none) =
-    let (fits, en, es) = accepted-sheet b l n s (e, λ f a. none f (admission.of-sheet a)) in
-    (record {
-      none = λ k p a. none (k, p) a;
-      fits = fits;
-      plausible-counts = long-enough (λ h. none (9, 0) (admission.short-counts (inl h)));
-      feasible-counts = long-enough (λ h. none (9, 0) (admission.short-counts (inr h)));
-      nodes = long-enough (λ h. none (24, 0) (admission.short-room (inl h)));
-      groups = long-enough (λ h. none (24, 0) (admission.short-room (inr h)));
-    }, en, es)
+    let (fits, en, es) = accepted-sheet b l n s (e, λ f a. none f (admission.of-sheet a)) in (
+      record {
+        none = λ k p a. none (k, p) a;
+        fits = fits;
+        plausible-counts = long-enough (λ h. none (9, 0) (admission.short-counts (inl h)));
+        feasible-counts = long-enough (λ h. none (9, 0) (admission.short-counts (inr h)));
+        nodes = long-enough (λ h. none (24, 0) (admission.short-room (inl h)));
+        groups = long-enough (λ h. none (24, 0) (admission.short-room (inr h)));
+      },
+      en,
+      es,
+    )
 
 -- ── 25, where none of the others applies ──
 module _ {b l : List ℕ} {T : Tables} {m : Lent} (clear : Clear b l T m) where
