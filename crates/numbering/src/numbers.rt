@@ -7,7 +7,7 @@ ghost use Rattle.chains.specs.Limits.{max-kids, max-settings, max-nodes};
 ghost use Rattle.book.specs.Format.{prods, grammar};
 ghost use Rattle.sheet.specs.Reading.{settings-of};
 ghost use Rattle.numbering.specs.Parts.{Indexed, Sheeted, Children};
-ghost use Rattle.numbering.specs.Giving.{labels-known, Firsts, Held-one, Held-own, Slot, Kinds, Family, Instance, Walkable, Given};
+ghost use Rattle.numbering.specs.Giving.{labels-known, Firsts, Held-one, Held-own, Slot, Kinds, Instance, Walkable, Given};
 use super::limits::LABELS;
 use super::limits::NODES;
 use super::limits::PRODUCTIONS;
@@ -114,55 +114,7 @@ fn number_slot(
     next
 }
 
-// The settings of the children of node i, of production p, from the first child to the last.
-fn number_kids(
-    book: &[u8],
-    places: &[usize; PRODUCTIONS],
-    sheet: &[u8],
-    p: u8,
-    down: &[u8],
-    entry: u64,
-    ends: &[u16; NODES],
-    firsts: &[u16; NODES],
-    i: usize,
-    stamp: u16,
-    first: u16,
-    stamps: &mut [u16; LABELS],
-    held: &mut [u16; LABELS],
-    groups: &mut [u16],
-) -> u16
-    requires { ⌜ Indexed (now book) (now places) × (p < prods (now book)) × (first ≤ max-settings * max-nodes)
-        × Children (now ends) i (length (grammar (now book) .kids p)) × Kinds (grammar (now book)) (now sheet) (now ends) i p
-        × Firsts (grammar (now book)) (now sheet) (now firsts) × (settings-of (grammar (now book)) (now sheet) ≤ length (now groups))
-        × (length (now ends) ≡ max-nodes) × (length (now firsts) ≡ max-nodes) × (length (now stamps) ≡ labels-known) × (length (now held) ≡ labels-known) ⌝ }
-    ensures { λ r. ⌜ Family (grammar (now (book .entry))) (now (sheet .entry)) (now (down .entry)) entry p (now (ends .entry)) i stamp first
-        (now (stamps .entry)) (now (held .entry)) (now (groups .entry)) (now (stamps .exit)) (now (held .exit)) (now (groups .exit)) r ⌝ }
-{
-    let place = places[p as usize];
-    let kids = book::arity(book, place);
-    let mut next = first;
-    let mut child = i + 1;
-    let mut j = 0;
-    while j < kids {
-        next = number_slot(
-            down,
-            entry,
-            j + 1,
-            book::settings(book, book::kid(book, place, j)),
-            firsts[child],
-            stamp,
-            next,
-            stamps,
-            held,
-            groups,
-        );
-        child = ends[child] as usize;
-        j += 1;
-    }
-    next
-}
-
-// Node i: its own settings hold their labels, then its children's settings are numbered. Its stamp is later than those of the nodes before it.
+// Node i: its own settings hold their labels, then its children's settings are numbered, from the first child to the last. Its stamp is later than those of the nodes before it.
 fn number_node(
     book: &[u8],
     places: &[usize; PRODUCTIONS],
@@ -196,22 +148,28 @@ fn number_node(
         stamps,
         held,
     );
-    number_kids(
-        book,
-        places,
-        sheet,
-        p,
-        down,
-        entry,
-        ends,
-        firsts,
-        i,
-        stamp,
-        first,
-        stamps,
-        held,
-        groups,
-    )
+    let place = places[p as usize];
+    let kids = book::arity(book, place);
+    let mut next = first;
+    let mut child = i + 1;
+    let mut j = 0;
+    while j < kids {
+        next = number_slot(
+            down,
+            entry,
+            j + 1,
+            book::settings(book, book::kid(book, place, j)),
+            firsts[child],
+            stamp,
+            next,
+            stamps,
+            held,
+            groups,
+        );
+        child = ends[child] as usize;
+        j += 1;
+    }
+    next
 }
 
 // All settings: the root's own first, then at each node its children's. Gives the number of groups.

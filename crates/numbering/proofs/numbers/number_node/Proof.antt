@@ -1,70 +1,132 @@
+-- A node's own settings hold their labels; then its children, one after another.
 use mathlib.Core.Path.{refl, _∙_}
 use Prim.Native.Nat.{_-_}
 use native.Mathlib.Omega.{arith}
 use Rattle.book.specs.Format.{grammar}
+use Rattle.numbering.proofs.Words.{next-byte, less-left, place-after, place-twice, place-wide}
+use Rattle.numbering.proofs.Children.{opened, end-low}
 use Rattle.numbering.proofs.Trees.{settings-inside}
+use Rattle.numbering.proofs.Families.{Naming, naming-none, naming-inside, naming-narrow, naming-fits, naming-low, naming-turn, naming-done}
 use Rattle.numbering.proofs.Instances.{instance}
 use Rattle.numbering.proofs.numbers.number_node.Statement.{statement}
 use Rattle.numbering.proofs.numbers.number_node.Tie as tie
 use Rattle.numbering.proofs.numbers.number_node.Reads as reads
 use Rattle.numbering.proofs.numbers.number_node.Lts as lts
+use Rattle.book.proofs.arity.Reads as arity-reads
+use Rattle.book.proofs.kid.Reads as kid-reads
+use Rattle.book.proofs.settings.Reads as settings-reads
 use Rattle.numbering.proofs.numbers.hold_own.Reads as hold-own-reads
-use Rattle.numbering.proofs.numbers.number_kids.Reads as number-kids-reads
+use Rattle.numbering.proofs.numbers.number_slot.Reads as number-slot-reads
 use Rattle.numbering.proofs.numbers.own_width.Reads as own-width-reads
 
-shared-slice-read-p : tie.Need-shared-slice-read-p
-shared-slice-read-p c = omega arith
+abbrev Inv-loop : tie.InvT-loop
+Inv-loop book places sheet down entry ends firsts i first stamps₀ held₀ groups₀ p stamp place kids next₀ child₀ j₀ stamps held groups next child j =
+    Naming book sheet down entry p place kids ends firsts i stamp first stamps₀ held₀ groups₀ stamps held groups next child j
 
-cast-stamp : tie.Need-cast-stamp
-cast-stamp c = omega arith
+abbrev μ-loop : tie.MeasureT-loop
+μ-loop book places sheet down entry ends firsts i first stamps₀ held₀ groups₀ p stamp place kids next₀ child₀ j₀ stamps held groups next child j = kids - j
 
-add-stamp : tie.Need-add-stamp
-add-stamp c = omega arith
+shared-slice-read-p : tie.Need-shared-slice-read-p Inv-loop μ-loop
+shared-slice-read-p c = c .before .before .before .before .before .pre .1
 
-own-width-requires : tie.Need-own-width-requires
+cast-stamp : tie.Need-cast-stamp Inv-loop μ-loop
+cast-stamp c = omega (arith, c .before .before .before .before .before .pre .4 .inside)
+
+add-stamp : tie.Need-add-stamp Inv-loop μ-loop
+add-stamp c = omega (arith, c .before .before .before .before .before .pre .4 .inside)
+
+own-width-requires : tie.Need-own-width-requires Inv-loop μ-loop
 own-width-requires c κs = (c .before .before .before .before .before .pre .0, c .before .before .before .before .before .pre .2)
 
-mul-hold-own : tie.Need-mul-hold-own
-mul-hold-own c = omega arith
+mul-hold-own : tie.Need-mul-hold-own Inv-loop μ-loop
+mul-hold-own c = place-twice (c .before .before .before .before .before .before .pre .4 .inside)
 
-element-copy-out-hold-own : tie.Need-element-copy-out-hold-own
-element-copy-out-hold-own c = omega arith
+element-copy-out-hold-own : tie.Need-element-copy-out-hold-own Inv-loop μ-loop
+element-copy-out-hold-own c = c .before .before .before .before .before .before .pre .4 .inside
 
-hold-own-requires : tie.Need-hold-own-requires
+hold-own-requires : tie.Need-hold-own-requires Inv-loop μ-loop
 hold-own-requires c κs =
     let s = c .before .before .before .before .before .before .before .before .before .before in
     let w = c .before .before .before .before .own-width .ensures in
     let a = s .pre .6 .each _ (s .pre .1) in
     (w .1, omega (arith, w .0, a, settings-inside (grammar (s .args .book .now)) (s .args .sheet .now) (s .args .i) (s .pre .1), s .pre .7), s .pre .10, s .pre .11)
 
-number-kids-requires : tie.Need-number-kids-requires
-number-kids-requires c κs =
-    let s = c .before .before .before .before .before .before .before .before .before .before .before .before .before .before in (
-      s .pre .0,
-      s .pre .2,
-      s .pre .3,
-      s .pre .4,
-      s .pre .5,
-      s .pre .6,
-      s .pre .7,
-      s .pre .8,
-      s .pre .9,
-      c .before .before .before .hold-own .ensures .stamps-kept ∙ s .pre .10,
-      c .before .before .before .hold-own .ensures .numbers-kept ∙ s .pre .11,
-    )
+cast-place : tie.Need-cast-place Inv-loop μ-loop
+cast-place c = omega (arith, c .before .before .before .before .before .before .before .before .before .before .before .pre .2, c .before .before .before .before .before .before .before .before .before .before .before .pre .0 .accepted .few-prods)
 
-same-length : tie.Need-same-length
-same-length c = c .before .before .number-kids .ensures .long
+mul-place : tie.Need-mul-place Inv-loop μ-loop
+mul-place c = omega (arith, c .before .before .before .before .before .before .before .before .before .before .before .pre .2, c .before .before .before .before .before .before .before .before .before .before .before .pre .0 .accepted .few-prods)
 
-returns : tie.Need-returns
+element-copy-out-place : tie.Need-element-copy-out-place Inv-loop μ-loop
+element-copy-out-place c = omega (arith, c .before .before .before .before .before .before .before .before .before .before .before .pre .2, c .before .before .before .before .before .before .before .before .before .before .before .pre .0 .accepted .few-prods)
+
+arity-requires : tie.Need-arity-requires Inv-loop μ-loop
+arity-requires c κs = tt
+
+add-child : tie.Need-add-child Inv-loop μ-loop
+add-child c = place-after (c .before .before .before .before .before .before .before .before .before .before .before .before .before .pre .4 .inside)
+
+loop-holds : tie.Need-loop-holds Inv-loop μ-loop
+loop-holds c =
+    let s = c .before .before .before .before .before .before .before .before .before .before .before .before .before in
+    let o = c .before .before .hold-own .ensures in
+    naming-none (opened (s .pre .0) (s .pre .2) refl (c .arity .ensures)) (s .pre .4) (s .pre .5) (s .pre .6) (s .pre .3) (s .pre .7) (o .stamps-kept ∙ s .pre .10) (o .numbers-kept ∙ s .pre .11)
+
+add-number-slot : tie.Need-add-number-slot Inv-loop μ-loop
+add-number-slot c = next-byte (c .loop-test .taken) (c .before .before .arity .ok)
+
+kid-requires : tie.Need-kid-requires Inv-loop μ-loop
+kid-requires c κs = tt
+
+settings-requires : tie.Need-settings-requires Inv-loop μ-loop
+settings-requires c κs = tt
+
+mul-number-slot : tie.Need-mul-number-slot Inv-loop μ-loop
+mul-number-slot c = place-twice (naming-inside (c .before .before .before .loop .inv) (c .before .before .loop-test .taken))
+
+element-copy-out-number-slot : tie.Need-element-copy-out-number-slot Inv-loop μ-loop
+element-copy-out-number-slot c = naming-inside (c .before .before .before .loop .inv) (c .before .before .loop-test .taken)
+
+number-slot-requires : tie.Need-number-slot-requires Inv-loop μ-loop
+number-slot-requires c κs =
+    let n = c .before .before .before .before .before .before .before .loop .inv in
+    let t = c .before .before .before .before .before .before .loop-test .taken in
+    let ex = c .before .before .before .before .before .kid .ensures in
+    let ew = c .before .before .before .before .settings .ensures in
+    (omega (arith, n .opened .few), naming-narrow n t ex ew refl, naming-fits n t ex ew refl, naming-low n t ex ew refl, n .stamps-long, n .numbers-long)
+
+mul-child : tie.Need-mul-child Inv-loop μ-loop
+mul-child c = place-twice (naming-inside (c .before .before .before .before .before .before .before .before .before .before .loop .inv) (c .before .before .before .before .before .before .before .before .before .loop-test .taken))
+
+element-copy-out-child : tie.Need-element-copy-out-child Inv-loop μ-loop
+element-copy-out-child c = naming-inside (c .before .before .before .before .before .before .before .before .before .before .loop .inv) (c .before .before .before .before .before .before .before .before .before .loop-test .taken)
+
+cast-child : tie.Need-cast-child Inv-loop μ-loop
+cast-child c = place-wide (end-low (c .before .before .before .before .before .before .before .before .before .before .before .loop .inv .children) (c .before .before .before .before .before .before .before .before .before .before .loop-test .taken) (c .before .before .before .before .before .before .before .before .before .before .before .loop .inv .stands))
+
+add-j : tie.Need-add-j Inv-loop μ-loop
+add-j c = next-byte (c .before .before .before .before .before .before .before .before .before .before .loop-test .taken) (c .before .before .before .before .before .before .before .before .before .before .before .before .arity .ok)
+
+loop-less : tie.Need-loop-less Inv-loop μ-loop
+loop-less c = less-left (c .before .before .before .before .before .before .before .before .before .before .loop-test .taken)
+
+loop-again : tie.Need-loop-again Inv-loop μ-loop
+loop-again c = naming-turn (c .before .before .before .before .before .before .before .before .before .before .before .loop .inv) (c .before .before .before .before .before .before .before .before .before .before .loop-test .taken) (c .before .before .before .before .before .before .before .before .before .kid .ensures) (c .before .before .before .before .before .before .before .before .settings .ensures) refl refl (c .before .before .before .number-slot .ensures) refl
+
+same-length : tie.Need-same-length Inv-loop μ-loop
+same-length c = c .before .loop .inv .long
+
+returns : tie.Need-returns Inv-loop μ-loop
 returns c =
-    let s = c .before .before .before .before .before .before .before .before .before .before .before .before .before .before .before .before .before in
-    instance (s .pre .10) (s .pre .11) refl refl (c .before .before .before .before .before .before .before .before .before .before .before .own-width .ensures .0) (s .pre .6 .each _ (s .pre .1)) (c .before .before .before .before .before .before .hold-own .ensures) (c .before .before .number-kids .ensures)
+    let s = c .before .before .before .before .before .before .before .before .before .before .before .before .before .before .before in
+    instance (s .pre .10) (s .pre .11) refl refl (c .before .before .before .before .before .before .before .before .before .own-width .ensures .0) (s .pre .6 .each _ (s .pre .1)) (c .before .before .before .before .hold-own .ensures) (naming-done (c .before .loop .inv) (c .loop-test .left))
 
 pub number-node-spec : {M : Type 1} → statement M
 number-node-spec =
     tie.close
     (tie.spec
+    Inv-loop
+    μ-loop
     shared-slice-read-p
     cast-stamp
     add-stamp
@@ -72,6 +134,23 @@ number-node-spec =
     mul-hold-own
     element-copy-out-hold-own
     hold-own-requires
-    number-kids-requires
+    cast-place
+    mul-place
+    element-copy-out-place
+    arity-requires
+    add-child
+    loop-holds
+    add-number-slot
+    kid-requires
+    settings-requires
+    mul-number-slot
+    element-copy-out-number-slot
+    number-slot-requires
+    mul-child
+    element-copy-out-child
+    cast-child
+    add-j
+    loop-less
+    loop-again
     same-length
     returns)
