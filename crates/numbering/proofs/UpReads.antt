@@ -21,9 +21,7 @@ use Rattle.ranks.proofs.Padded.{CountsPadded, RanksPadded, up-number-is}
 use Rattle.numbering.specs.Walk.{Tables, tables, ranks}
 use Rattle.numbering.specs.Promise.{TreeOf, BadUp}
 use Rattle.numbering.specs.Visits.{rank-of}
-use Rattle.numbering.specs.Parts.{Sheeted, Children, Kindred, Ended, Ranked, NoBadUp, UpNodeIs, UpNodeRead, UpIs, UpReads}
-use Rattle.numbering.specs.declared.upward.UpNode.{UpNode}
-use Rattle.numbering.specs.declared.upward.UpNode.the-variants as node
+use Rattle.numbering.specs.Parts.{Sheeted, Children, Kindred, Ended, Ranked, NoBadUp, UpReads}
 use Rattle.numbering.specs.declared.upward.Reads.{Reads}
 use Rattle.numbering.specs.declared.upward.Reads.the-variants.{All, Bad}
 use Rattle.numbering.proofs.Children.{Opened}
@@ -31,6 +29,18 @@ use Rattle.numbering.proofs.Standing.{children-of, ended-below, ranked-
 use Rattle.numbering.proofs.Trees.{tree-size, Node, node-at}
 
 -- ── at a node ──
+-- what is true of the read at node i, which has the production p, whatever forest ds stands below it
+pub record UpHere (b c u plausible ends : List ℕ) (i p : ℕ) (P : Tables → Bush → Type 0) : Type 0 where
+  pub case : (d w : List ℕ) (ds : Bush) → Kinded (grammar b) ds (grammar b .kids p) → Ended ds (suc i) 0 ends
+      → Ranked (grammar b) (tables c d u w) ds (suc i) 0 plausible → P (tables c d u w) ds
+
+-- it is bad; or it is good, and gives a rank and where the subtree ends
+abbrev pub UpBad : List ℕ → ℕ → Tables → Bush → Type 0
+UpBad b p T ds = BadUp (grammar b) T p ds
+
+abbrev pub UpGood : List ℕ → ℕ → ℕ → ℕ → ℕ → Tables → Bush → Type 0
+UpGood b i p rank end T ds = (BadUp (grammar b) T p ds → ⊥) × (rank ≡ rank-of (grammar b) T p ds) × (end ≡ suc (i + size ds))
+
 -- what a read is asked for: counts and ranks of the children, and where the production's entries begin
 pub record UpAsked (b c u plausible ends : List ℕ) (i p start : ℕ) (ns rs : List ℕ) (end : ℕ) : Type 0 where
   pub counts : CountsPadded max-kids c (grammar b .kids p) ns
@@ -50,7 +60,7 @@ module _ {b c u plausible ends : List ℕ} {i p start : ℕ} {ns rs : List ℕ} 
       ap (λ s. up-number s ns rs) (a .begins)
       ∙ up-number-is (grammar b) (a .counts) (kin-long (grammar b) (tables c d u w) ds (grammar b .kids p) plausible ends i k e r) (kin-padded (grammar b) (tables c d u w) ds (grammar b .kids p) plausible ends i k e r (a .kin))
 
-  pub read-past : {r : UpRead} → UpFinds u (up-number start ns rs) (up-said r) → r ≡ read.Past → UpNodeRead b c u plausible ends i p node.Bad
+  pub read-past : {r : UpRead} → UpFinds u (up-number start ns rs) (up-said r) → r ≡ read.Past → UpHere b c u plausible ends i p (UpBad b p)
   read-past {r} f e =
       let g : UpFinds u (up-number start ns rs) past = subst (λ x. UpFinds u (up-number start ns rs) (up-said x)) e f in
       record { case = λ d w ds k en ra. inl (omega (arith, g, entry-is d w ds k en ra)) }
@@ -63,10 +73,10 @@ module _ {b c u plausible ends : List ℕ} {i p start : ℕ} {ns rs : List ℕ} 
         → rank .0 ≡ rank-of (grammar b) (tables c d u w) p ds
     rank-is d w ds k en ra = found-rank .1 ∙ ap (λ x. getD u x none) (entry-is d w ds k en ra)
 
-    pub read-high : {kind : ℕ} → kind ≡ grammar b .left p → getD c kind 0 ≤ rank .0 → UpNodeRead b c u plausible ends i p node.Bad
+    pub read-high : {kind : ℕ} → kind ≡ grammar b .left p → getD c kind 0 ≤ rank .0 → UpHere b c u plausible ends i p (UpBad b p)
     read-high {kind} ek h = record { case = λ d w ds k en ra. inr (rw (← ek, ← rank-is d w ds k en ra) h) }
 
-    pub read-good : {kind : ℕ} → kind ≡ grammar b .left p → rank .0 < getD c kind 0 → UpNodeRead b c u plausible ends i p (node.Read rank end)
+    pub read-good : {kind : ℕ} → kind ≡ grammar b .left p → rank .0 < getD c kind 0 → UpHere b c u plausible ends i p (UpGood b i p (rank .0) end)
     read-good {kind} ek h = record {
       case = λ d w ds k en ra. (good d w ds k en ra, rank-is d w ds k en ra, kin-end (grammar b) (tables c d u w) ds (grammar b .kids p) plausible ends i k en ra (a .kin));
     }
@@ -99,82 +109,85 @@ going-none {b} {l} h lp le = record {
     beyond : (t : TreeOf (grammar b) l) (i q : ℕ) (ds : Bush) → Sub (t .tree) 0 i q ds → length l ≤ i → ⊥
     beyond t i q ds s k = omega (arith, sub-in (t .tree) 0 i q ds s .0 .1, tree-size t)
 
+-- the node before is one of the sheet's
+module _ {b l c u plausible ends : List ℕ} {i : ℕ} (g : UpGoing b l c u plausible ends i) (some : 0 < i) where
+  pub going-there : i - 1 < length l
+  going-there = omega (arith, g .within)
+
+  pub going-inside : i - 1 < max-nodes
+  going-inside = omega (arith, g .within, g .few)
+
+  pub going-known : TreeOf (grammar b) l → getD l (i - 1) 0 < prods b
+  going-known t = node-at t (i - 1) going-there .known
+
 module _ {b l c u plausible ends : List ℕ} {i : ℕ} (g : UpGoing b l c u plausible ends i) (t₀ : TreeOf (grammar b) l) (a : Accepted b) (some : 0 < i) where
   pub going-children : (p : ℕ) → p ≡ getD l (i - 1) 0 → Children ends (i - 1) (length (grammar b .kids p))
   going-children p e =
-      let n = node-at t₀ (i - 1) (omega (arith, g .within)) in
+      let n = node-at t₀ (i - 1) (going-there g some) in
       let z : suc (i - 1) ≡ i = omega arith in
       let en : Ended (n .below) (suc (i - 1)) 0 ends = ended-below (t₀ .tree) (n .below) (i - 1) (getD l (i - 1) 0) i ends (n .is-node) (omega arith) (g .read-so-far t₀ [] [] .2) in
       rw e (children-of ends (i - 1) (n .below) en (grammar b) (grammar b .kids (getD l (i - 1) 0)) (n .kinded)
       (a .lawful .few-kids (getD l (i - 1) 0) (n .known)) (omega (arith, n .inside, g .few)))
 
   -- the node before
-  module _ {p : ℕ} (ep : p ≡ getD l (i - 1) 0) {r : UpNode} (f : UpNodeRead b c u plausible ends (i - 1) p r) where
-    here : (t : TreeOf (grammar b) l) (d w : List ℕ) → (n : Node t (i - 1)) × UpNodeIs (grammar b) (tables c d u w) (i - 1) (getD l (i - 1) 0) (n .below) r
-    here t d w =
-        let n = node-at t (i - 1) (omega (arith, g .within)) in
+  module _ {p : ℕ} (ep : p ≡ getD l (i - 1) 0) where
+    here : {P : Tables → Bush → Type 0} → UpHere b c u plausible ends (i - 1) p P → (t : TreeOf (grammar b) l) (d w : List ℕ) → (n : Node t (i - 1)) × P (tables c d u w) (n .below)
+    here {P} f t d w =
+        let n = node-at t (i - 1) (going-there g some) in
         let so-far = g .read-so-far t d w in
-        let f′ : UpNodeRead b c u plausible ends (i - 1) (getD l (i - 1) 0) r = subst (λ q. UpNodeRead b c u plausible ends (i - 1) q r) ep f in
+        let f′ : UpHere b c u plausible ends (i - 1) (getD l (i - 1) 0) P = subst (λ q. UpHere b c u plausible ends (i - 1) q P) ep f in
         (n, f′ .case d w (n .below) (n .kinded) (ended-below (t .tree) (n .below) (i - 1) (getD l (i - 1) 0) i ends (n .is-node) (omega arith) (so-far .2)) (ranked-below (grammar b) (tables c d u w) (t .tree) (n .below) (i - 1) (getD l (i - 1) 0) i plausible (n .is-node) (omega arith) (so-far .1)))
 
-    pub going-bad : r ≡ node.Bad → UpReads b l c u plausible ends (Bad (i - 1))
-    going-bad e = record {
+    pub going-bad : UpHere b c u plausible ends (i - 1) p (UpBad b p) → UpReads b l c u plausible ends (Bad (i - 1))
+    going-bad f = record {
       plausible-long = g .plausible-long;
       ends-long = g .ends-long;
       case = λ t d w.
-          let (n, h) = here t d w in
-          let bad : BadUp (grammar b) (tables c d u w) (getD l (i - 1) 0) (n .below) = subst (UpNodeIs (grammar b) (tables c d u w) (i - 1) (getD l (i - 1) 0) (n .below)) e h in
-          ((getD l (i - 1) 0, n .below, n .is-node, bad), λ m q ds s k. g .read-so-far t d w .0 m q ds s (omega arith));
+          let (n, h) = here f t d w in
+          ((getD l (i - 1) 0, n .below, n .is-node, rw (← ep) h), λ m q ds s k. g .read-so-far t d w .0 m q ds s (omega arith));
     }
 
-    pub going-end : {rank : Plausible} {end : ℕ} → r ≡ node.Read rank end → end ≤ max-nodes
-    going-end e =
-        let (n, h) = here t₀ [] [] in
-        let h′ = subst (UpNodeIs (grammar b) (tables c [] u []) (i - 1) (getD l (i - 1) 0) (n .below)) e h in
-        omega (arith, h′ .2, n .inside, g .few)
+    module _ {rank end : ℕ} (f : UpHere b c u plausible ends (i - 1) p (UpGood b (i - 1) p rank end)) where
+      pub going-end : end ≤ max-nodes
+      going-end = let (n, h) = here f t₀ [] [] in omega (arith, h .2, n .inside, g .few)
 
-    pub going-turn : {rank : Plausible} {end x : ℕ} → r ≡ node.Read rank end → x ≡ end
-        → UpGoing b l c u (set plausible (i - 1) (rank .0)) (set ends (i - 1) x) (i - 1)
-    going-turn {rank} {end} {x} e ex = record {
-      within = omega (arith, g .within);
-      plausible-long = length-set plausible (i - 1) (rank .0) ∙ g .plausible-long;
-      ends-long = length-set ends (i - 1) x ∙ g .ends-long;
-      few = g .few;
-      read-so-far = λ t d w. (
-        λ m q ds s k. still t d w m q ds s k (ℕ-discrete m (i - 1)),
-        λ m q ds s k. ranked t d w m q ds s k (ℕ-discrete m (i - 1)),
-        λ m q ds s k. ended t d w m q ds s k (ℕ-discrete m (i - 1)),
-      );
-    }
-      where
-        now : (t : TreeOf (grammar b) l) (d w : List ℕ) (m q : ℕ) (ds : Bush) → Sub (t .tree) 0 m q ds → m ≡ i - 1
-            → (BadUp (grammar b) (tables c d u w) q ds → ⊥) × (rank .0 ≡ rank-of (grammar b) (tables c d u w) q ds) × (x ≡ suc (m + size ds))
-        now t d w m q ds s z =
-            let (n, h) = here t d w in
-            let h′ = subst (UpNodeIs (grammar b) (tables c d u w) (i - 1) (getD l (i - 1) 0) (n .below)) e h in
-            let s′ : Sub (t .tree) 0 (i - 1) q ds = subst (λ y. Sub (t .tree) 0 y q ds) z s in
-            let (eq, ed) = sub-one (t .tree) 0 (i - 1) q (getD l (i - 1) 0) ds (n .below) s′ (n .is-node) in
-            let size-is : size ds ≡ size (n .below) = ap size ed in
-            (rw (eq, ed) (h′ .0), rw (eq, ed) (h′ .1), ex ∙ h′ .2 ∙ omega arith)
+      pub going-turn : {x : ℕ} → x ≡ end → UpGoing b l c u (set plausible (i - 1) rank) (set ends (i - 1) x) (i - 1)
+      going-turn {x} ex = record {
+        within = omega (arith, g .within);
+        plausible-long = length-set plausible (i - 1) rank ∙ g .plausible-long;
+        ends-long = length-set ends (i - 1) x ∙ g .ends-long;
+        few = g .few;
+        read-so-far = λ t d w. (
+          λ m q ds s k. still t d w m q ds s k (ℕ-discrete m (i - 1)),
+          λ m q ds s k. ranked t d w m q ds s k (ℕ-discrete m (i - 1)),
+          λ m q ds s k. ended t d w m q ds s k (ℕ-discrete m (i - 1)),
+        );
+      }
+        where
+          now : (t : TreeOf (grammar b) l) (d w : List ℕ) (m q : ℕ) (ds : Bush) → Sub (t .tree) 0 m q ds → m ≡ i - 1
+              → (BadUp (grammar b) (tables c d u w) q ds → ⊥) × (rank ≡ rank-of (grammar b) (tables c d u w) q ds) × (x ≡ suc (m + size ds))
+          now t d w m q ds s z =
+              let (n, h) = here f t d w in
+              let s′ : Sub (t .tree) 0 (i - 1) q ds = subst (λ y. Sub (t .tree) 0 y q ds) z s in
+              let (eq, ed) = sub-one (t .tree) 0 (i - 1) q (getD l (i - 1) 0) ds (n .below) s′ (n .is-node) in
+              let size-is : size ds ≡ size (n .below) = ap size ed in
+              (rw (eq, ed, ← ep) (h .0), rw (eq, ed, ← ep) (h .1), ex ∙ h .2 ∙ omega arith)
 
-        inside : i - 1 < max-nodes
-        inside = omega (arith, g .within, g .few)
+          still : (t : TreeOf (grammar b) l) (d w : List ℕ) (m q : ℕ) (ds : Bush) → Sub (t .tree) 0 m q ds → i - 1 ≤ m → Dec (m ≡ i - 1) → BadUp (grammar b) (tables c d u w) q ds → ⊥
+          still t d w m q ds s k (yes z) = now t d w m q ds s z .0
+          still t d w m q ds s k (no z) = g .read-so-far t d w .0 m q ds s (omega arith)
 
-        still : (t : TreeOf (grammar b) l) (d w : List ℕ) (m q : ℕ) (ds : Bush) → Sub (t .tree) 0 m q ds → i - 1 ≤ m → Dec (m ≡ i - 1) → BadUp (grammar b) (tables c d u w) q ds → ⊥
-        still t d w m q ds s k (yes z) = now t d w m q ds s z .0
-        still t d w m q ds s k (no z) = g .read-so-far t d w .0 m q ds s (omega arith)
+          ranked : (t : TreeOf (grammar b) l) (d w : List ℕ) (m q : ℕ) (ds : Bush) → Sub (t .tree) 0 m q ds → i - 1 ≤ m → Dec (m ≡ i - 1)
+              → getD (set plausible (i - 1) rank) m 0 ≡ rank-of (grammar b) (tables c d u w) q ds
+          ranked t d w m q ds s k (yes z) =
+              ap (λ y. getD (set plausible (i - 1) rank) y 0) z ∙ getD-set-same plausible (i - 1) rank 0 (omega (arith, going-inside g some, g .plausible-long)) ∙ now t d w m q ds s z .1
+          ranked t d w m q ds s k (no z) = getD-set-other plausible (i - 1) m rank 0 z ∙ g .read-so-far t d w .1 m q ds s (omega arith)
 
-        ranked : (t : TreeOf (grammar b) l) (d w : List ℕ) (m q : ℕ) (ds : Bush) → Sub (t .tree) 0 m q ds → i - 1 ≤ m → Dec (m ≡ i - 1)
-            → getD (set plausible (i - 1) (rank .0)) m 0 ≡ rank-of (grammar b) (tables c d u w) q ds
-        ranked t d w m q ds s k (yes z) =
-            ap (λ y. getD (set plausible (i - 1) (rank .0)) y 0) z ∙ getD-set-same plausible (i - 1) (rank .0) 0 (omega (arith, inside, g .plausible-long)) ∙ now t d w m q ds s z .1
-        ranked t d w m q ds s k (no z) = getD-set-other plausible (i - 1) m (rank .0) 0 z ∙ g .read-so-far t d w .1 m q ds s (omega arith)
-
-        ended : (t : TreeOf (grammar b) l) (d w : List ℕ) (m q : ℕ) (ds : Bush) → Sub (t .tree) 0 m q ds → i - 1 ≤ m → Dec (m ≡ i - 1)
-            → getD (set ends (i - 1) x) m 0 ≡ suc (m + size ds)
-        ended t d w m q ds s k (yes z) =
-            ap (λ y. getD (set ends (i - 1) x) y 0) z ∙ getD-set-same ends (i - 1) x 0 (omega (arith, inside, g .ends-long)) ∙ now t d w m q ds s z .2
-        ended t d w m q ds s k (no z) = getD-set-other ends (i - 1) m x 0 z ∙ g .read-so-far t d w .2 m q ds s (omega arith)
+          ended : (t : TreeOf (grammar b) l) (d w : List ℕ) (m q : ℕ) (ds : Bush) → Sub (t .tree) 0 m q ds → i - 1 ≤ m → Dec (m ≡ i - 1)
+              → getD (set ends (i - 1) x) m 0 ≡ suc (m + size ds)
+          ended t d w m q ds s k (yes z) =
+              ap (λ y. getD (set ends (i - 1) x) y 0) z ∙ getD-set-same ends (i - 1) x 0 (omega (arith, going-inside g some, g .ends-long)) ∙ now t d w m q ds s z .2
+          ended t d w m q ds s k (no z) = getD-set-other ends (i - 1) m x 0 z ∙ g .read-so-far t d w .2 m q ds s (omega arith)
 
 pub going-done : {b l c u plausible ends : List ℕ} {i : ℕ} → UpGoing b l c u plausible ends i → i ≤ 0 → UpReads b l c u plausible ends All
 going-done g h = record {

@@ -2,7 +2,7 @@
 use mathlib.Core.Path.{_≡_}
 use Prim.Native.Nat.{ℕ, _+_, _-_, _*_, _≤_, _<_}
 use native.Mathlib.Omega.{arith}
-use mir.Syntax.{w8, w64}
+use mir.Syntax.{w8, w16, w64}
 use mir.Val.{Fits}
 use Rattle.chains.specs.Limits.{max-settings, max-prods, max-nodes}
 
@@ -32,7 +32,13 @@ place-wide l = omega (arith, l)
 pub place-eight : {i : ℕ} → i < max-nodes → Fits w64 (i * 8)
 place-eight l = omega (arith, l)
 
+pub place-word : {i : ℕ} → i ≤ max-nodes → Fits w16 i
+place-word l = omega (arith, l)
+
 -- a production's
+pub prod-wide : {p : ℕ} → p < max-prods → Fits w64 p
+prod-wide l = omega (arith, l)
+
 pub prod-after : {p : ℕ} → p < max-prods → Fits w64 (p + 1)
 prod-after l = omega (arith, l)
 
@@ -42,6 +48,9 @@ prod-eight l = omega (arith, l)
 -- bounds passed on
 pub below : {i n m : ℕ} → i < n → n ≤ m → i < m
 below l h = omega (arith, l, h)
+
+pub at-most : {i n : ℕ} → i < n → i ≤ n
+at-most l = omega (arith, l)
 
 pub fits-kept : {s n m : ℕ} → s ≤ n → m ≡ n → s ≤ m
 fits-kept l e = omega (arith, l, e)

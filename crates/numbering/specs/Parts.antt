@@ -17,8 +17,6 @@ use Rattle.ranks.specs.Reads.{child-rank-at}
 use Rattle.numbering.specs.Walk.{Tables, tables, started}
 use Rattle.numbering.specs.Promise.{TreeOf, BadUp, BadRoot, BadDown, entry-at}
 use Rattle.numbering.specs.Visits.{rank-of, entry-in, visit}
-use Rattle.numbering.specs.declared.upward.UpNode.{UpNode}
-use Rattle.numbering.specs.declared.upward.UpNode.the-variants as up
 use Rattle.numbering.specs.declared.downward.DownNode.{DownNode}
 use Rattle.numbering.specs.declared.downward.DownNode.the-variants as down
 use Rattle.numbering.specs.declared.upward.Reads.{Reads}
@@ -72,15 +70,6 @@ Ranked G T f n k plausible = (i q : ℕ) (ds : Bush) → Sub f n i q ds → k �
 -- no upward read of a node from k on is bad
 abbrev pub NoBadUp : Grammar → Tables → Bush → ℕ → Type 0
 NoBadUp G T f k = (i q : ℕ) (ds : Bush) → Sub f 0 i q ds → k ≤ i → BadUp G T q ds → ⊥
-
--- the read at node i, which has the production p and the children ds
-abbrev pub UpNodeIs : Grammar → Tables → ℕ → ℕ → Bush → UpNode → Type 0
-UpNodeIs G T i p ds (up.Read rank end) = (BadUp G T p ds → ⊥) × (rank .0 ≡ rank-of G T p ds) × (end ≡ suc (i + size ds))
-UpNodeIs G T i p ds up.Bad = BadUp G T p ds
-
-pub record UpNodeRead (b c u plausible ends : List ℕ) (i p : ℕ) (r : UpNode) : Type 0 where
-  pub case : (d w : List ℕ) (ds : Bush) → Kinded (grammar b) ds (grammar b .kids p) → Ended ds (suc i) 0 ends
-      → Ranked (grammar b) (tables c d u w) ds (suc i) 0 plausible → UpNodeIs (grammar b) (tables c d u w) i p ds r
 
 abbrev pub UpIs : Grammar → Tables → Bush → List ℕ → List ℕ → Reads → Type 0
 UpIs G T f plausible ends All = NoBadUp G T f 0 × Ranked G T f 0 0 plausible × Ended f 0 0 ends

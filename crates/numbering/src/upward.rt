@@ -1,17 +1,15 @@
 // The upward reads: each node's plausible rank by its children's, from the last node to the first, and where its subtree ends.
 ghost use mathlib.Core.Path.{_≡_};
-ghost use Prim.Native.Nat.{_≤_, _<_};
+ghost use Prim.Native.Nat.{_≤_};
 ghost use lib.ListN.{length};
 ghost use Rattle.chains.specs.Limits.{max-nodes};
-ghost use Rattle.book.specs.Format.{kinds, prods, grammar};
-ghost use Rattle.ranks.specs.Entries.{up-start};
-ghost use Rattle.numbering.specs.Parts.{Indexed, Sheeted, Children, UpNodeRead, UpReads};
+ghost use Rattle.book.specs.Format.{kinds};
+ghost use Rattle.numbering.specs.Parts.{Indexed, Sheeted, UpReads};
 use super::kin::kid_counts;
 use super::kin::kin_of;
 use super::limits::NODES;
 use super::limits::PRODUCTIONS;
 use super::starts::up_starts;
-use ranks::Plausible;
 use ranks::UpRead;
 
 // Whether every read is good, or the node where the first bad one is.
@@ -20,45 +18,7 @@ pub enum Reads {
     Bad(u16),
 }
 
-// What is read at a node: its rank and where its subtree ends; or an entry past its slice, or a rank not below its count.
-pub enum UpNode {
-    Read { rank: Plausible, end: usize },
-    Bad,
-}
-
-// The read at node i, of production p, whose entries begin at start.
-fn read_node(
-    book: &[u8],
-    places: &[usize; PRODUCTIONS],
-    counts: &[u8],
-    up: &[u8],
-    start: u64,
-    p: usize,
-    plausible: &[u8; NODES],
-    ends: &[u16; NODES],
-    i: usize,
-) -> UpNode
-    requires { ⌜ Indexed (now book) (now places) × (p < prods (now book)) × (kinds (now book) ≤ length (now counts))
-        × (start ≡ up-start (grammar (now book)) (now counts) p)
-        × (length (now plausible) ≡ max-nodes) × (length (now ends) ≡ max-nodes) × Children (now ends) i (length (grammar (now book) .kids p)) ⌝ }
-    ensures { λ r. ⌜ UpNodeRead (now (book .entry)) (now (counts .entry)) (now (up .entry)) (now (plausible .entry)) (now (ends .entry)) i p r ⌝ }
-{
-    let at = places[p];
-    let kin = kin_of(plausible, ends, i, book::arity(book, at));
-    let ranks = kin.ranks;
-    match ranks::read_up(up, start, kid_counts(book, places, p, counts), ranks) {
-        UpRead::Past => UpNode::Bad,
-        UpRead::Rank(rank) => {
-            let left = book::left(book, at) as usize;
-            if counts[left] <= rank.0 {
-                return UpNode::Bad;
-            }
-            UpNode::Read { rank, end: kin.end }
-        }
-    }
-}
-
-// All of them; the first that is bad, from the last node on, is the answer.
+// All of them; the first that is bad, from the last node on, is the answer: an entry past its slice, or a rank not below its count.
 pub fn read_upward(
     book: &[u8],
     places: &[usize; PRODUCTIONS],
@@ -77,13 +37,20 @@ pub fn read_upward(
     while 0 < i {
         i -= 1;
         let p = sheet[i] as usize;
-        match read_node(book, places, counts, up, starts[p], p, plausible, ends, i) {
-            UpNode::Bad => {
+        let at = places[p];
+        let kin = kin_of(plausible, ends, i, book::arity(book, at));
+        let ranks = kin.ranks;
+        match ranks::read_up(up, starts[p], kid_counts(book, places, p, counts), ranks) {
+            UpRead::Past => {
                 return Reads::Bad(i as u16);
             }
-            UpNode::Read { rank, end } => {
+            UpRead::Rank(rank) => {
+                let left = book::left(book, at) as usize;
+                if counts[left] <= rank.0 {
+                    return Reads::Bad(i as u16);
+                }
                 plausible[i] = rank.0;
-                ends[i] = end as u16;
+                ends[i] = kin.end as u16;
             }
         }
     }
