@@ -9,11 +9,12 @@ use lib.ListN.{length, getD, take, drop, set, length-append, length-set, take-ap
 use lib.Seq.{append-snoc, set-split, take-at, getD-append-add, getD-append-seam}
 use Rattle.lists.specs.Part.{part, place}
 use Rattle.lists.proofs.Carry.{placed}
+use Rattle.slices.specs.Slices.{Overlaid}
 use Rattle.chains.specs.Limits.{max-kids, max-members}
 use Rattle.chains.specs.State.{code-on}
 use Rattle.ranks.specs.Entries.{labels, entry-bytes, none}
 use Rattle.tables.specs.Sets.{member}
-use Rattle.tables.specs.State.{tidied}
+use Rattle.tables.specs.State.{State, tidied}
 use Rattle.tables.specs.Shape.{kind-of, width-of}
 use Rattle.tables.specs.Fill.{InPlace, Listed, RankOn, ChildRank, ChildRanks, DownBytes, Entry, entry-size, Rankable, Laid}
 use Rattle.tables.specs.declared.shape.Shape.{Shape}
@@ -79,8 +80,10 @@ pub ranks-done : {f d : List ℕ} {v : Shape} {x : List ℕ} {n : ℕ} {out : Li
 ranks-done {f} {d} {v} {x} {n} {out} {a} {out′} h e = subst (λ n. ChildRanks f d v x n out a out′) e h
 
 -- ── the labels ──
-pub labels-put : (x out : List ℕ) (a : ℕ) {l out′ : List ℕ} → l ≡ tidied x → out′ ≡ place a l out → out′ ≡ place a (tidied x) out
-labels-put x out a e p = p ∙ ap (λ (u : List ℕ). place a u out) e
+pub labels-put : {x : List ℕ} (out : List ℕ) (a : ℕ) {l out′ : List ℕ} → State x → a + labels ≤ length out → l ≡ tidied x → Overlaid a l out out′ → out′ ≡ place a (tidied x) out
+labels-put {x} out a {l} s h e o =
+    let n : length l ≡ labels = ap length e ∙ tidy-state s .long in
+    o .room (omega arith) ∙ ap (λ (u : List ℕ). place a u out) e
 
 -- ── whole entries ──
 pub up-put : {f d : List ℕ} {v : Shape} {x : List ℕ} (out : List ℕ) (a : ℕ) {r : ℕ} → RankOn f d v 0 x r → a + 1 ≤ length out

@@ -9,7 +9,6 @@ ghost use Rattle.tables.specs.State.{State, tidied};
 ghost use Rattle.tables.specs.Fill.{InPlace, Listed, RankOn, ChildRank, ChildRanks, Rankable, Entry, entry-size, Laid};
 use super::labels::LABELS;
 use super::labels::NONE;
-use super::labels::copy_state;
 use super::labels::tidy;
 use super::labels::view;
 use super::sets::count;
@@ -65,7 +64,7 @@ fn put_labels(s: &[u8; LABELS], out: &mut [u8], at: usize)
 {
     let mut t = *s;
     tidy(&mut t);
-    copy_state(&t, out, at);
+    slices::lay(out, at, &t);
 }
 
 // An up entry: the rank of what the state shows on slot 0. The answer is the place behind it.

@@ -10,7 +10,6 @@ ghost use Rattle.tables.specs.Visit.{max-turns, Ready, Standing, InOrder
 use super::labels::LABELS;
 use super::labels::NONE;
 use super::labels::SLOTS;
-use super::labels::copy_state;
 use super::labels::forget;
 use super::labels::tidy;
 use super::labels::tie;
@@ -50,7 +49,7 @@ fn choose(v: Visit, j: usize, code: u32, s: &[u8; LABELS], t: &mut [u8; LABELS])
     ensures { λ _. ⌜ now (t .exit) ≡ chosen v j code (now (s .entry)) ⌝ }
 {
     let slot = v.slots[j];
-    copy_state(s, t, 0);
+    *t = *s;
     tie(t, slot, v.widths[j], code);
     release(t, slot, v.target);
     tidy(t);
