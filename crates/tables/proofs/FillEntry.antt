@@ -13,7 +13,8 @@ use Rattle.slices.specs.Slices.{Overlaid}
 use Rattle.chains.specs.Limits.{max-kids, max-members}
 use Rattle.chains.specs.State.{code-on}
 use Rattle.ranks.specs.Entries.{labels, entry-bytes, none}
-use Rattle.tables.specs.Sets.{member}
+use Rattle.members.specs.Sets.{Sought}
+use Rattle.members.proofs.Seeking.{search-finds}
 use Rattle.tables.specs.State.{State, tidied}
 use Rattle.tables.specs.Shape.{kind-of, width-of}
 use Rattle.tables.specs.Fill.{InPlace, Listed, RankOn, ChildRank, ChildRanks, DownBytes, Entry, entry-size, Rankable, Laid}
@@ -23,25 +24,26 @@ use Rattle.tables.proofs.StateTidy.{tidy-state}
 use Rattle.tables.proofs.FillRuns.{place-behind, laid-one}
 
 -- ── a rank ──
-module _ {f d : List ℕ} {v : Shape} {x : List ℕ} (h : InPlace f d v x) (t : ℕ) (l : t ≤ v .arity) {k : ℕ} (e : k ≡ kind-of v t) where
-  pub kind-there : k < length d
-  kind-there = rw e (h .placed t l .here)
+module _ {f d : List ℕ} {v : Shape} {x : List ℕ} (h : InPlace f d v x) (t : ℕ) (l : t ≤ v .arity) where
+  pub kind-there : kind-of v t < length d
+  kind-there = h .placed t l .here
 
-  module _ {n y : ℕ} (c : n ≡ getD d k 0) (s : y ≡ code-on t (width-of v t) x) where
-    pub rank-there : Listed f d v t x → (k * max-members + n ≤ length f) × List·Memᴰ y (part (k * max-members) n f)
-    rank-there m =
-        let q : n ≡ getD d (kind-of v t) 0 = c ∙ ap (λ (k : ℕ). getD d k 0) e in
-        let p = h .placed t l in
-        (rw (e, q) (omega (arith, p .there, p .few)), rw (s, e, q) m)
+  pub size-fits : getD d (kind-of v t) 0 ≤ max-members
+  size-fits = h .placed t l .few
 
-    pub rank-is : {r : ℕ} → (r < n) × (member f k r ≡ y) → RankOn f d v t x r
-    rank-is {r} (b, m) = record {
-      below = rw (← e, ← c) b;
-      is = ap (λ (k : ℕ). member f k r) (sym e) ∙ m ∙ s;
-    }
+  -- the member that a slot shows is found
+  module _ {y r : ℕ} (e : y ≡ code-on t (width-of v t) x) (m : Listed f d v t x) (q : Sought f (kind-of v t * max-members) (getD d (kind-of v t) 0) y r) where
+    fits : kind-of v t * max-members + getD d (kind-of v t) 0 ≤ length f
+    fits = let p = h .placed t l in omega (arith, p .there, p .few)
 
-    pub rank-small : {r : ℕ} → r < n → r < 256
-    rank-small b = let p = h .placed t l .few in omega (arith, c, ap (λ (k : ℕ). getD d k 0) e)
+    found : r < getD d (kind-of v t) 0
+    found = search-finds fits (q .there fits) (rw e m)
+
+    pub rank-is : RankOn f d v t x r
+    rank-is = record { below = found; is = q .there fits .found found ∙ e }
+
+    pub rank-small : r < 256
+    rank-small = let a = found in let b = size-fits in omega arith
 
 -- ── the children's ranks ──
 pub no-child : (f d : List ℕ) {v : Shape} (x : List ℕ) {j n : ℕ} → n ≡ v .arity → n ≤ j → ChildRank f d v x j none

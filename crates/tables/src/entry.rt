@@ -11,8 +11,7 @@ use super::labels::LABELS;
 use super::labels::NONE;
 use super::labels::tidy;
 use super::labels::view;
-use super::sets::count;
-use super::sets::rank;
+use super::sets::MAX_MEMBERS;
 use super::shape::Shape;
 use ranks::ENTRY;
 
@@ -31,7 +30,7 @@ fn rank_on(v: Shape, slot: usize, s: &[u8; LABELS], sets: &[u32], counts: &[u8])
 {
     let kind = v.kinds[slot] as usize;
     let code = view(s, slot as u8, v.widths[slot]);
-    rank(sets, kind, count(counts, kind), code) as u8
+    members::place_of(sets, kind * MAX_MEMBERS, counts[kind] as usize, code) as u8
 }
 
 // The rank of a child, from 0 on; NONE where there is no such child.
