@@ -25,7 +25,7 @@ use Rattle.chains.proofs.Nodes.{sub-flat, sub-child}
 use Rattle.chains.proofs.Sharing.{labels-told}
 use Rattle.book.specs.Format.{occ}
 use Rattle.ranks.specs.Entries.{Ranks, labels, entry-bytes, none}
-use Rattle.tables.specs.Sets.{member}
+use Rattle.members.specs.Sets.{member}
 use Rattle.tables.specs.Entries.{picked, Downward, Ranked, DownEntry}
 use Rattle.numbering.specs.Walk.{Tables, ranks, given, label-in, places, started}
 use Rattle.numbering.specs.Places.{plausible-rank, feasible-rank, down-entry-of}

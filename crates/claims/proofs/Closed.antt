@@ -10,11 +10,10 @@ use Rattle.chains.specs.Steps.{StepDown}
 use Rattle.chains.proofs.Says.{says-unique}
 use Rattle.chains.proofs.Plausible.{ClosedUp}
 use Rattle.chains.proofs.Feasible.{ClosedDown}
-use Rattle.tables.specs.Sets.{Has}
-use Rattle.tables.specs.Memory.{Placed}
+use Rattle.members.specs.Sets.{Has, Placed}
 use Rattle.ranks.specs.Entries.{Ranks}
 use Rattle.tables.specs.Entries.{picked, Upward, Downward, UpTable, DownTable}
-use Rattle.tables.proofs.Members.{ranked-has, rank-of}
+use Rattle.members.proofs.Ranked.{ranked-has, rank-of}
 
 -- members of the sets of the kinds ks, by their ranks
 pub record ByRank (s c ks cs : List ℕ) : Type 0 where

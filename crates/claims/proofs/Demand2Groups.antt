@@ -17,7 +17,7 @@ use Rattle.chains.proofs.Entries.{subtree-says, whole-says}
 use Rattle.chains.proofs.Walk.{numbers-exact, numbers-used}
 use Rattle.book.specs.Format.{grammar}
 use Rattle.sheet.specs.Reading.{settings-of}
-use Rattle.tables.specs.Sets.{member}
+use Rattle.members.specs.Sets.{member}
 use Rattle.tables.specs.Promise as tables
 use Rattle.numbering.specs.Walk.{Tables, places, started, group-numbers}
 use Rattle.numbering.specs.Places.{plausible-rank, feasible-rank, down-entry-of, number-of}

@@ -10,9 +10,10 @@ use Rattle.lists.proofs.Parts.{getD-part}
 use Rattle.lists.proofs.Places.{rising-at}
 use Rattle.chains.specs.Limits.{max-members}
 use Rattle.book.specs.Format.{grammar}
-use Rattle.tables.specs.Sets.{Has, members, Holds}
+use Rattle.members.specs.Sets.{members, Has}
+use Rattle.tables.specs.Sets.{Holds}
 use Rattle.tables.specs.Promise.{Lent, BuildDue}
-use Rattle.tables.proofs.Members.{members-long, ranked-has, rank-of}
+use Rattle.members.proofs.Ranked.{members-long, ranked-has, rank-of}
 use Rattle.tables.proofs.Holds.{holds-placed}
 use Rattle.tables.proofs.Promise.{plausible-there, plausible-here, feasible-there, feasible-here}
 use Rattle.claims.specs.Sets.{StandsIn, InOrder, SetsAreRight}

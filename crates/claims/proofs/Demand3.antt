@@ -17,10 +17,10 @@ use Rattle.chains.proofs.Holes.{spot-in, plug-size}
 use Rattle.chains.proofs.Replace.{replaced-chains, replaced-kind, replaced-plausible, replaced-feasible, replaced-fitted}
 use Rattle.chains.proofs.Sheets.{two-sheets}
 use Rattle.book.specs.Format.{grammar}
-use Rattle.tables.specs.Sets.{member}
+use Rattle.members.specs.Sets.{member}
 use Rattle.tables.specs.Memory.{Fine}
 use Rattle.tables.specs.Promise as tables
-use Rattle.tables.proofs.Members.{rank-once}
+use Rattle.members.proofs.Ranked.{rank-once}
 use Rattle.tables.proofs.Memory.{fine-placed}
 use Rattle.numbering.specs.Walk.{Tables}
 use Rattle.numbering.specs.Promise.{Lent, TreeOf, CallDue}

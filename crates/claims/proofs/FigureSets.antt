@@ -23,8 +23,8 @@ use Rattle.chains.proofs.Plausible.{plausible-sound, plausible-iff}
 use Rattle.chains.proofs.Feasible.{feasible-iff}
 use Rattle.book.specs.Format.{entry, ties-of, grammar}
 use Rattle.ranks.specs.Entries.{choices, up-start, down-start}
-use Rattle.tables.specs.Sets.{Has, member, members, Holds}
-use Rattle.tables.specs.Memory.{Placed}
+use Rattle.members.specs.Sets.{members, Has, member, Placed}
+use Rattle.tables.specs.Sets.{Holds}
 use Rattle.tables.specs.State.{based}
 use Rattle.tables.specs.Promise.{up-entries, down-entries, Applies, of-book, short-slice, over-plausible, over-feasible, short-up, short-down, Counted, BuildDue}
 use Rattle.tables.proofs.Holds.{holds-counted, over-never, counted-once}

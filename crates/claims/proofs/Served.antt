@@ -19,11 +19,11 @@ use Rattle.bookcheck.specs.Refusals as book
 use Rattle.bookcheck.proofs.Accepted as accepted
 use Rattle.ranks.specs.Entries.{Ranks, choice, up-entry, down-entry, entry-bytes, none}
 use Rattle.ranks.proofs.Numbers.{up-entry-below, down-entry-below}
-use Rattle.tables.specs.Sets.{Has, member, members}
+use Rattle.members.specs.Sets.{members, Has, member}
 use Rattle.tables.specs.Entries.{picked, Downward, UpTable, DownEntry, DownTable}
 use Rattle.tables.specs.Memory.{Fine}
 use Rattle.tables.specs.Promise.{Lent, up-entries, down-entries, Applies, of-book, BuildDue}
-use Rattle.tables.proofs.Members.{members-long}
+use Rattle.members.proofs.Ranked.{members-long}
 use Rattle.tables.proofs.Memory.{fine-placed}
 use Rattle.tables.proofs.Holds.{holds-fine}
 use Rattle.tables.proofs.Entries.{choices-same, kids-same, up-start-same, up-entries-same, down-start-same, down-entries-same}

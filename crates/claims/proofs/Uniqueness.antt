@@ -9,7 +9,8 @@ use Rattle.ranks.proofs.Finds.{read-up-once, read-down-once, child-rank-once, l
 use Rattle.tables.specs.declared.Built.{Built}
 use Rattle.tables.specs.declared.Built.the-variants as build
 use Rattle.tables.specs.Answer as build-answer
-use Rattle.slices.proofs.Once.{insert-once, clear-once, wipe-once}
+use Rattle.slices.proofs.Once.{insert-once, clear-once, wipe-once, relabel-once, lay-once}
+use Rattle.members.proofs.Once.{place-of-once, put-once}
 use Rattle.blocks.proofs.Carried.{occurrences-once}
 use Rattle.blocks.proofs.SetMembers.{block-size-once, first-occurrence-once}
 use Rattle.tables.proofs.Promise.{build-once}
@@ -45,6 +46,10 @@ one-outcome = record {
   insert = insert-once;
   clear = clear-once;
   wipe = wipe-once;
+  relabel = relabel-once;
+  lay = lay-once;
+  place-of = place-of-once;
+  put = put-once;
   occurrences = occurrences-once;
   block-size = block-size-once;
   first-occurrence = first-occurrence-once;

@@ -20,7 +20,7 @@ use Rattle.chains.proofs.Step.{width-few}
 use Rattle.book.specs.Format.{prods, entry, grammar}
 use Rattle.bookcheck.proofs.Accepted.{Accepted}
 use Rattle.ranks.specs.Entries.{up-entry, down-entry, labels, entry-bytes, none}
-use Rattle.tables.specs.Sets.{member}
+use Rattle.members.specs.Sets.{member}
 use Rattle.tables.specs.Entries.{picked, Upward, Downward, Ranked, UpTable, Labelled, DownTable}
 use Rattle.tables.specs.State.{based, tidyFrom, tidied}
 use Rattle.tables.proofs.FillState.{picked-long}

@@ -9,7 +9,7 @@ use Rattle.chains.specs.Tree.{Bush, Inst, Sub, Fitted}
 use Rattle.chains.specs.Chain.{Chain, RootChains, NodeChains}
 use Rattle.chains.specs.Grouping.{Says}
 use Rattle.sheet.specs.Reading.{settings-of}
-use Rattle.tables.specs.Sets.{member}
+use Rattle.members.specs.Sets.{member}
 use Rattle.tables.specs.Promise as tables
 use Rattle.numbering.specs.Promise as numbering
 use Rattle.numbering.specs.Places.{plausible-rank, feasible-rank, number-of}

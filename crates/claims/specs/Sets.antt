@@ -7,7 +7,7 @@ use lib.ListN.{getD}
 use Rattle.chains.specs.Grammar.{Grammar}
 use Rattle.chains.specs.Plausible.{Plausible}
 use Rattle.chains.specs.Feasible.{Feasible}
-use Rattle.tables.specs.Sets.{member}
+use Rattle.members.specs.Sets.{member}
 use Rattle.tables.specs.Entries.{UpTable, DownTable}
 use Rattle.tables.specs.Promise.{Lent, up-entries, down-entries}
 

@@ -2,12 +2,12 @@
 use mathlib.Core.Path.{_≡_, refl, sym, _∙_}
 use mathlib.Core.Bool.{Bool, true, false}
 use mathlib.Core.List.{List}
-use Prim.Native.Nat.{ℕ, _+_, _<_}
+use Prim.Native.Nat.{ℕ, _+_, _≤_, _<_}
 use native.Mathlib.Decide.{decLt}
 use native.Mathlib.Omega.{arith}
 use lib.ListN.{length}
 use Rattle.lists.specs.Inserted.{one}
-use Rattle.slices.specs.Slices.{Cleared, Wiped, Taken}
+use Rattle.slices.specs.Slices.{Cleared, Wiped, Taken, Relabelled, Overlaid}
 
 one-once : (n : ℕ) (r r′ : Bool) → n + one r ≡ n + one r′ → r ≡ r′
 one-once n true true e = refl
@@ -31,3 +31,13 @@ clear-once n s s₁ s₂ a b = a ∙ sym b
 
 pub wipe-once : (all : Bool) (s s₁ s₂ : List ℕ) → Wiped all s s₁ → Wiped all s s₂ → s₁ ≡ s₂
 wipe-once all s s₁ s₂ a b = a ∙ sym b
+
+pub relabel-once : (a b : ℕ) (s s₁ s₂ : List ℕ) → Relabelled a b s s₁ → Relabelled a b s s₂ → s₁ ≡ s₂
+relabel-once a b s s₁ s₂ x y = x ∙ sym y
+
+pub lay-once : (from : ℕ) (s t t₁ t₂ : List ℕ) → Overlaid from s t t₁ → Overlaid from s t t₂ → t₁ ≡ t₂
+lay-once from s t t₁ t₂ a b = go (decLt (length t) (from + length s))
+  where
+    go : Dec (length t < from + length s) → t₁ ≡ t₂
+    go (yes h) = a .none h ∙ sym (b .none h)
+    go (no h) = let r : from + length s ≤ length t = omega arith in a .room r ∙ sym (b .room r)

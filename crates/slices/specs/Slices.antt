@@ -5,7 +5,9 @@ use mathlib.Core.List.{List, _++_}
 use Prim.Native.Nat.{ℕ, _+_, _≤_, _<_, min}
 use lib.ListN.{length, drop, replicate}
 use Rattle.lists.specs.Pick.{pick}
+use Rattle.lists.specs.Part.{place}
 use Rattle.lists.specs.Inserted.{Inserted}
+use Rattle.chains.specs.Labels.{relabel}
 
 -- the first n places are zero, the rest as they were
 abbrev pub cleared : ℕ → List ℕ → List ℕ
@@ -23,3 +25,12 @@ Wiped all s s′ = s′ ≡ pick all (replicate (length s) 0) s
 pub record Taken (base n x : ℕ) (s s′ : List ℕ) (r : Bool) : Type 0 where
   pub room : base + n < length s → Inserted base n x s s′ r
   pub none : length s ≤ base + n → (s′ ≡ s) × (r ≡ false)
+
+-- THE PROMISE of relabelling: every b has become a, and nothing else has changed
+abbrev pub Relabelled : ℕ → ℕ → List ℕ → List ℕ → Type 0
+Relabelled a b s s′ = s′ ≡ relabel a b s
+
+-- THE PROMISE of laying: s stands in t from a place on, where it fits whole; else t is as it came
+pub record Overlaid (from : ℕ) (s t t′ : List ℕ) : Type 0 where
+  pub room : from + length s ≤ length t → t′ ≡ place from s t
+  pub none : length t < from + length s → t′ ≡ t

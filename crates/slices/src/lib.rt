@@ -1,10 +1,13 @@
-// Work on lent slices that no grammar decides: a number carried into a run of numbers, and places made zero.
+// Work on lent slices that no grammar decides: a number carried into a run of numbers, one label in place of another, a run of bytes laid over a
+// part, and places made zero.
 ghost use mathlib.Core.Path.{_≡_};
 ghost use Prim.Native.Nat.{_+_, _<_, _≤_, min};
 ghost use lib.ListN.{length};
 ghost use Rattle.lists.specs.Pick.{pick};
 ghost use Rattle.lists.specs.Inserted.{Inserted};
-ghost use Rattle.slices.specs.Slices.{cleared, Cleared, Wiped, Taken};
+ghost use Rattle.lists.specs.Part.{place};
+ghost use Rattle.chains.specs.Labels.{swap, relabel};
+ghost use Rattle.slices.specs.Slices.{cleared, Cleared, Wiped, Taken, Relabelled, Overlaid};
 
 // ---- a number carried in
 
@@ -41,6 +44,52 @@ pub fn insert(s: &mut [u32], base: usize, n: usize, x: u32) -> bool
         return false;
     }
     carry_in(s, base, n, x)
+}
+
+// ---- labels
+
+// x, or a where it is b.
+fn swapped(x: u8, a: u8, b: u8) -> u8
+    ensures { λ r. ⌜ r ≡ swap a b x ⌝ }
+{
+    if x == b { a } else { x }
+}
+
+// The label b becomes a everywhere.
+pub fn relabel(s: &mut [u8], a: u8, b: u8)
+    ensures { λ _. ⌜ Relabelled a b (now (s .entry)) (now (s .exit)) ⌝ }
+{
+    let mut holder = 0;
+    while holder < s.len() {
+        s[holder] = swapped(s[holder], a, b);
+        holder += 1;
+    }
+}
+
+// ---- a run of bytes
+
+fn copy_in(t: &mut [u8], from: usize, s: &[u8])
+    requires { ⌜ from + length (now s) ≤ length (now t) ⌝ }
+    ensures { λ _. ⌜ now (t .exit) ≡ place from (now (s .entry)) (now (t .entry)) ⌝ }
+{
+    let mut byte = 0;
+    while byte < s.len() {
+        t[from + byte] = s[byte];
+        byte += 1;
+    }
+}
+
+// s put into t from a place on, where it fits whole.
+pub fn lay(t: &mut [u8], from: usize, s: &[u8])
+    ensures { λ _. ⌜ Overlaid from (now (s .entry)) (now (t .entry)) (now (t .exit)) ⌝ }
+{
+    if t.len() < s.len() {
+        return;
+    }
+    if t.len() - s.len() < from {
+        return;
+    }
+    copy_in(t, from, s);
 }
 
 // ---- zeros

@@ -1,31 +1,20 @@
 -- A turn of a visit, on its states: where all is there that later turns tie and that is looked at, it is there afterwards.
 use mathlib.Core.Path.{_≡_, refl, sym, ap, _∙_}
 use mathlib.Core.Bool.{Bool, true, false}
-use mathlib.Core.List.{List, [], append-nil}
-use Prim.Native.Nat.{ℕ, suc, _+_, _≤_}
+use mathlib.Core.List.{List}
+use Prim.Native.Nat.{ℕ, suc, _≤_}
 use native.Mathlib.Omega.{arith}
 use borrow.Author.Tests.{eqb-false}
 use lib.Dec.{eqb}
-use lib.ListN.{length, drop, drop-of-length-le}
 use Rattle.lists.specs.Pick.{pick}
-use Rattle.lists.specs.Part.{place}
 use Rattle.chains.specs.Limits.{max-settings, max-kids}
-use Rattle.chains.specs.Labels.{joins}
-use Rattle.chains.specs.State.{dropped, code-pairs}
-use Rattle.ranks.specs.Entries.{labels}
+use Rattle.chains.specs.State.{dropped}
 use Rattle.tables.specs.State.{State, spot, Whole, tidied}
 use Rattle.tables.specs.Visit.{slot-of, width-of, released, tied, chosen, Ready, Standing}
 use Rattle.tables.specs.declared.gather.Visit.{Visit}
 use Rattle.tables.proofs.State.{tie-means, forget-state}
 use Rattle.tables.proofs.StateTidy.{tidy-state, tidy-present}
 use Rattle.tables.proofs.StateWalk.{step-state, step-whole}
-
--- a state put over another one whole
-pub copied-over : (s t : List ℕ) {t′ : List ℕ} → length s ≡ labels → length t ≡ labels → t′ ≡ place 0 s t → t′ ≡ s
-copied-over s t a b e =
-    let h : length t ≤ 0 + length s = omega arith in
-    let d : drop (0 + length s) t ≡ [] = drop-of-length-le t h in
-    e ∙ rw d (append-nil s)
 
 -- fewer turns ask less
 pub ready-less : {v : Visit} {j : ℕ} → Ready v (suc j) → Ready v j
@@ -62,10 +51,7 @@ module _ {v : Visit} {j : ℕ} {s : List ℕ} (r : Ready v (suc j)) (h : Standin
       go true = tied-state
       go false = forget-state tied-state (slot-of v j) slot-low
 
-  -- the state is worked out in four steps
-  pub step-tied : {u₁ u₂ : List ℕ} → u₁ ≡ s → u₂ ≡ joins u₁ (code-pairs (slot-of v j) (width-of v j) c) → u₂ ≡ tied v j c s
-  step-tied e f = f ∙ ap (λ (u : List ℕ). joins u (code-pairs (slot-of v j) (width-of v j) c)) e
-
+  -- the state is worked out in three steps
   pub step-released : {u₂ u₃ : List ℕ} → u₂ ≡ tied v j c s → u₃ ≡ released (slot-of v j) (v .target) u₂ → u₃ ≡ released (slot-of v j) (v .target) (tied v j c s)
   step-released e f = f ∙ ap (λ (u : List ℕ). released (slot-of v j) (v .target) u) e
 

@@ -12,14 +12,14 @@ use Rattle.chains.specs.Feasible.{Feasible}
 use Rattle.chains.proofs.Feasible.{ClosedDown, feasible-sound, feasible-complete}
 use Rattle.book.specs.Format.{kinds, prods, start, grammar}
 use Rattle.bookcheck.proofs.Accepted.{Accepted}
-use Rattle.tables.specs.Sets.{Has}
+use Rattle.members.specs.Sets.{Has}
 use Rattle.tables.specs.Memory.{Fine, Kept, Turned}
 use Rattle.slices.specs.Slices.{cleared}
 use Rattle.tables.specs.Visit.{Gathered, OldOr}
 use Rattle.tables.specs.Sweep.{Since, total, Attended, Swept, Exact, Outcome}
 use Rattle.tables.specs.Downward.{down-step, down-into, down-watch, DownServed, DownMarks, DownSwept, DownClosed, Seeded}
-use Rattle.tables.specs.declared.sets.Turn.{Turn}
-use Rattle.tables.specs.declared.sets.Turn.the-variants.{Still}
+use Rattle.members.specs.declared.Turn.{Turn}
+use Rattle.members.specs.declared.Turn.the-variants.{Still}
 use Rattle.tables.proofs.Memory.{kept-trans, turned-map, Lasts}
 use Rattle.tables.proofs.Holds.{fine-holds}
 use Rattle.tables.proofs.Gathering.{turned-widen}

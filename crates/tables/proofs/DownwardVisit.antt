@@ -17,12 +17,12 @@ use Rattle.chains.specs.Steps.{StepDown}
 use Rattle.chains.proofs.Gathered.{gathered-down}
 use Rattle.book.specs.Format.{arity-at, entry, kinds, prods, grammar}
 use Rattle.bookcheck.proofs.Accepted.{Accepted, arity-read}
-use Rattle.tables.specs.Sets.{Has}
-use Rattle.tables.specs.Memory.{Placed, Fine, Turned}
+use Rattle.members.specs.Sets.{Has, Placed}
+use Rattle.tables.specs.Memory.{Fine, Turned}
 use Rattle.tables.specs.State.{based}
 use Rattle.tables.specs.Visit.{max-turns, Yields, Gathered, OldOr, Gathers, Opening, Prepared}
 use Rattle.tables.specs.Downward.{slot-down, given}
-use Rattle.tables.specs.declared.sets.Turn.{Turn}
+use Rattle.members.specs.declared.Turn.{Turn}
 use Rattle.tables.specs.declared.gather.Visit.{Visit}
 use Rattle.tables.proofs.Memory.{fine-placed}
 use Rattle.tables.proofs.Gathering.{gathers-map}

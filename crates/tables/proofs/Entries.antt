@@ -15,7 +15,7 @@ use Rattle.ranks.proofs.Numbers.{up-entry-of, down-entry-of}
 use Rattle.tables.specs.Entries.{Ranked, UpTable, DownEntry, DownTable}
 use Rattle.tables.specs.Promise.{up-entries, down-entries, Written}
 use Rattle.tables.specs.Memory.{Fine}
-use Rattle.tables.proofs.Members.{rank-once}
+use Rattle.members.proofs.Ranked.{rank-once}
 use Rattle.tables.proofs.StateTidy.{labelled-once}
 use Rattle.tables.proofs.Memory.{fine-placed}
 

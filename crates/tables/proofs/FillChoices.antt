@@ -10,7 +10,7 @@ use Rattle.chains.specs.Limits.{max-members}
 use Rattle.ranks.specs.Entries.{Ranks, choices, choice, entry-bytes}
 use Rattle.ranks.proofs.Digits.{digit-once}
 use Rattle.ranks.proofs.Numbers.{choice-below}
-use Rattle.tables.specs.Sets.{member}
+use Rattle.members.specs.Sets.{member}
 use Rattle.tables.specs.Entries.{picked}
 use Rattle.tables.specs.State.{spot}
 use Rattle.tables.specs.Shape.{kind-of, width-of, kinds-from, Sized}

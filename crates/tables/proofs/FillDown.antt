@@ -17,7 +17,7 @@ use Rattle.book.specs.Reading.{told}
 use Rattle.bookcheck.proofs.Accepted.{Accepted, told-prods}
 use Rattle.ranks.specs.Entries.{Ranks, choices, down-start, down-entry, entry-bytes}
 use Rattle.ranks.proofs.Numbers.{down-start-after, down-entry-below}
-use Rattle.tables.specs.Sets.{member}
+use Rattle.members.specs.Sets.{member}
 use Rattle.tables.specs.Entries.{picked, Downward, Labelled, DownEntry, DownTable}
 use Rattle.tables.specs.Promise.{down-entries, Written}
 use Rattle.tables.specs.State.{based}
@@ -26,7 +26,7 @@ use Rattle.tables.specs.Sweep.{Exact}
 use Rattle.tables.specs.Fill.{tied, tied-once, Listed, DownBytes, Entry, Laid, chosen, ByAllRanks, AllChoices, AllAsked, DownRun, DownAll}
 use Rattle.tables.specs.declared.shape.Shape.{Shape}
 use Rattle.tables.specs.declared.entry.Table.the-variants.{Down}
-use Rattle.tables.proofs.Members.{ranked-has}
+use Rattle.members.proofs.Ranked.{ranked-has}
 use Rattle.tables.proofs.Memory.{fine-placed}
 use Rattle.tables.proofs.StateBase.{few-settings}
 use Rattle.tables.proofs.StateEntry.{Showing, show-says, show-labelled, chosen-all}

@@ -9,11 +9,13 @@ use lib.ListN.{length, getD, take, drop, set, length-append, length-set, take-ap
 use lib.Seq.{append-snoc, set-split, take-at, getD-append-add, getD-append-seam}
 use Rattle.lists.specs.Part.{part, place}
 use Rattle.lists.proofs.Carry.{placed}
+use Rattle.slices.specs.Slices.{Overlaid}
 use Rattle.chains.specs.Limits.{max-kids, max-members}
 use Rattle.chains.specs.State.{code-on}
 use Rattle.ranks.specs.Entries.{labels, entry-bytes, none}
-use Rattle.tables.specs.Sets.{member}
-use Rattle.tables.specs.State.{tidied}
+use Rattle.members.specs.Sets.{Sought}
+use Rattle.members.proofs.Seeking.{search-finds}
+use Rattle.tables.specs.State.{State, tidied}
 use Rattle.tables.specs.Shape.{kind-of, width-of}
 use Rattle.tables.specs.Fill.{InPlace, Listed, RankOn, ChildRank, ChildRanks, DownBytes, Entry, entry-size, Rankable, Laid}
 use Rattle.tables.specs.declared.shape.Shape.{Shape}
@@ -22,25 +24,26 @@ use Rattle.tables.proofs.StateTidy.{tidy-state}
 use Rattle.tables.proofs.FillRuns.{place-behind, laid-one}
 
 -- ── a rank ──
-module _ {f d : List ℕ} {v : Shape} {x : List ℕ} (h : InPlace f d v x) (t : ℕ) (l : t ≤ v .arity) {k : ℕ} (e : k ≡ kind-of v t) where
-  pub kind-there : k < length d
-  kind-there = rw e (h .placed t l .here)
+module _ {f d : List ℕ} {v : Shape} {x : List ℕ} (h : InPlace f d v x) (t : ℕ) (l : t ≤ v .arity) where
+  pub kind-there : kind-of v t < length d
+  kind-there = h .placed t l .here
 
-  module _ {n y : ℕ} (c : n ≡ getD d k 0) (s : y ≡ code-on t (width-of v t) x) where
-    pub rank-there : Listed f d v t x → (k * max-members + n ≤ length f) × List·Memᴰ y (part (k * max-members) n f)
-    rank-there m =
-        let q : n ≡ getD d (kind-of v t) 0 = c ∙ ap (λ (k : ℕ). getD d k 0) e in
-        let p = h .placed t l in
-        (rw (e, q) (omega (arith, p .there, p .few)), rw (s, e, q) m)
+  pub size-fits : getD d (kind-of v t) 0 ≤ max-members
+  size-fits = h .placed t l .few
 
-    pub rank-is : {r : ℕ} → (r < n) × (member f k r ≡ y) → RankOn f d v t x r
-    rank-is {r} (b, m) = record {
-      below = rw (← e, ← c) b;
-      is = ap (λ (k : ℕ). member f k r) (sym e) ∙ m ∙ s;
-    }
+  -- the member that a slot shows is found
+  module _ {y r : ℕ} (e : y ≡ code-on t (width-of v t) x) (m : Listed f d v t x) (q : Sought f (kind-of v t * max-members) (getD d (kind-of v t) 0) y r) where
+    fits : kind-of v t * max-members + getD d (kind-of v t) 0 ≤ length f
+    fits = let p = h .placed t l in omega (arith, p .there, p .few)
 
-    pub rank-small : {r : ℕ} → r < n → r < 256
-    rank-small b = let p = h .placed t l .few in omega (arith, c, ap (λ (k : ℕ). getD d k 0) e)
+    found : r < getD d (kind-of v t) 0
+    found = search-finds fits (q .there fits) (rw e m)
+
+    pub rank-is : RankOn f d v t x r
+    rank-is = record { below = found; is = q .there fits .found found ∙ e }
+
+    pub rank-small : r < 256
+    rank-small = let a = found in let b = size-fits in omega arith
 
 -- ── the children's ranks ──
 pub no-child : (f d : List ℕ) {v : Shape} (x : List ℕ) {j n : ℕ} → n ≡ v .arity → n ≤ j → ChildRank f d v x j none
@@ -79,8 +82,10 @@ pub ranks-done : {f d : List ℕ} {v : Shape} {x : List ℕ} {n : ℕ} {out : Li
 ranks-done {f} {d} {v} {x} {n} {out} {a} {out′} h e = subst (λ n. ChildRanks f d v x n out a out′) e h
 
 -- ── the labels ──
-pub labels-put : (x out : List ℕ) (a : ℕ) {l out′ : List ℕ} → l ≡ tidied x → out′ ≡ place a l out → out′ ≡ place a (tidied x) out
-labels-put x out a e p = p ∙ ap (λ (u : List ℕ). place a u out) e
+pub labels-put : {x : List ℕ} (out : List ℕ) (a : ℕ) {l out′ : List ℕ} → State x → a + labels ≤ length out → l ≡ tidied x → Overlaid a l out out′ → out′ ≡ place a (tidied x) out
+labels-put {x} out a {l} s h e o =
+    let n : length l ≡ labels = ap length e ∙ tidy-state s .long in
+    o .room (omega arith) ∙ ap (λ (u : List ℕ). place a u out) e
 
 -- ── whole entries ──
 pub up-put : {f d : List ℕ} {v : Shape} {x : List ℕ} (out : List ℕ) (a : ℕ) {r : ℕ} → RankOn f d v 0 x r → a + 1 ≤ length out

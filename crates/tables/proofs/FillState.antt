@@ -13,7 +13,8 @@ use Rattle.chains.specs.State.{code-on}
 use Rattle.chains.specs.Feasible.{Chosen}
 use Rattle.book.specs.Format.{kinds, prods, entry, grammar}
 use Rattle.bookcheck.proofs.Accepted.{Accepted}
-use Rattle.tables.specs.Sets.{member, Holds}
+use Rattle.members.specs.Sets.{member}
+use Rattle.tables.specs.Sets.{Holds}
 use Rattle.ranks.specs.Entries.{Ranks}
 use Rattle.tables.specs.Entries.{picked, Ranked}
 use Rattle.tables.specs.Memory.{Fine}
@@ -22,7 +23,7 @@ use Rattle.tables.specs.Shape.{ShapeAt, Sized, AllPlaced}
 use Rattle.tables.specs.Sweep.{Exact}
 use Rattle.tables.specs.Fill.{Ready, tied-once, tied, RankOn}
 use Rattle.tables.specs.declared.shape.Shape.{Shape}
-use Rattle.tables.proofs.Members.{ranked-has}
+use Rattle.members.proofs.Ranked.{ranked-has}
 use Rattle.tables.proofs.Memory.{fine-placed}
 use Rattle.tables.proofs.Holds.{holds-fine}
 use Rattle.tables.proofs.StateBase.{few-settings, base-state}

@@ -7,13 +7,14 @@ use native.Mathlib.Omega.{arith}
 use lib.ListN.{length}
 use Rattle.chains.specs.State.{code-on}
 use Rattle.ranks.specs.Entries.{labels}
-use Rattle.tables.specs.Sets.{Has, Over}
-use Rattle.tables.specs.Memory.{Put, Fine, Kept, Turned}
+use Rattle.members.specs.Sets.{Has, Put}
+use Rattle.tables.specs.Sets.{Over}
+use Rattle.tables.specs.Memory.{Fine, Kept, Turned}
 use Rattle.tables.specs.Seen.{seen-bytes, Found, remembered, Stored}
 use Rattle.tables.specs.Turns.{joined, beyond}
 use Rattle.tables.specs.Visit.{size-of, code-of, chosen, Yields, Gathered, OldOr, Gathers, Done, Request, Reply}
-use Rattle.tables.specs.declared.sets.Turn.{Turn}
-use Rattle.tables.specs.declared.sets.Turn.the-variants.{Still, Added, Full}
+use Rattle.members.specs.declared.Turn.{Turn}
+use Rattle.members.specs.declared.Turn.the-variants.{Still, Added, Full}
 use Rattle.tables.specs.declared.gather.Visit.{Visit}
 use Rattle.tables.proofs.Memory.{kept-refl, put-turned, turned-map}
 use Rattle.tables.proofs.Rounds.{turned-done, Round, round-begun, goes-on, round-next, round-done, joined-full}

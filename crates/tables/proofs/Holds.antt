@@ -10,11 +10,12 @@ use Rattle.lists.specs.Rising.{Rising, none}
 use Rattle.lists.proofs.Parts.{getD-part}
 use Rattle.lists.proofs.Rising.{pinned, rising-fewer}
 use Rattle.chains.specs.Limits.{max-members}
-use Rattle.tables.specs.Sets.{members, Has, member, Over, Holds}
+use Rattle.members.specs.Sets.{members, Has, member, Placed}
+use Rattle.tables.specs.Sets.{Over, Holds}
 use Rattle.tables.specs.Promise.{Counted}
-use Rattle.tables.specs.Memory.{Placed, Fine, Kept}
+use Rattle.tables.specs.Memory.{Fine, Kept}
 use Rattle.slices.specs.Slices.{cleared}
-use Rattle.tables.proofs.Members.{members-long}
+use Rattle.members.proofs.Ranked.{members-long}
 use Rattle.slices.proofs.Cleared.{cleared-long, cleared-at, cleared-past}
 
 -- ── from cleared memory to the sets ──

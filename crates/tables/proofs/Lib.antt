@@ -9,7 +9,6 @@ pub mod StateWalk
 pub mod Choosing
 pub mod Gathering
 pub mod StateEntry
-pub mod Members
 pub mod Memory
 pub mod Holds
 pub mod Entries

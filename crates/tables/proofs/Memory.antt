@@ -14,11 +14,12 @@ use Rattle.lists.proofs.Rising.{insert-mem, insert-has, insert-keeps, insert-ri
 use Rattle.lists.proofs.Places.{rising-whole}
 use Rattle.lists.proofs.Room.{room-falls}
 use Rattle.chains.specs.Limits.{max-members}
-use Rattle.tables.specs.Sets.{members, Has, member, Over}
-use Rattle.tables.specs.Memory.{Placed, Grown, Put, Fine, Kept, Turned, room}
-use Rattle.tables.specs.declared.sets.Turn.{Turn}
-use Rattle.tables.specs.declared.sets.Turn.the-variants.{Still, Added, Full}
-use Rattle.tables.proofs.Members.{members-long}
+use Rattle.members.specs.Sets.{members, Has, member, Placed, Grown, Put}
+use Rattle.tables.specs.Sets.{Over}
+use Rattle.tables.specs.Memory.{Fine, Kept, Turned, room}
+use Rattle.members.specs.declared.Turn.{Turn}
+use Rattle.members.specs.declared.Turn.the-variants.{Still, Added, Full}
+use Rattle.members.proofs.Ranked.{members-long}
 
 -- ── what is in order ──
 pub fine-placed : {n : ℕ} {P : ℕ → ℕ → Type 0} {s c : List ℕ} → Fine n P s c → (k : ℕ) → k < n → Placed s c k
@@ -166,13 +167,13 @@ same-kept {n} {s} {c} a b = subst₂ (Kept n s c) (sym a) (sym b) (kept-refl n s
 pub put-turned : {n : ℕ} {P : ℕ → ℕ → Type 0} {s c s′ c′ : List ℕ} {k x : ℕ} (r : Turn) → Fine n P s c → k < n → P k x → Put k x s c s′ c′ r
     → Turned n P (Has s′ c′ k x) s c s′ c′ r
 put-turned {k = k} {x} Still f h px i =
-    let (a, b, m) = i .case in
+    let (a, b, m) = i .there (fine-placed f k h) .case in
     record { fine = same-fine a b f; kept = same-kept a b; case = (a, b, subst₂ (λ s c. Has s c k x) (sym a) (sym b) m) }
 put-turned Added f h px i =
-    let G = i .case in
+    let G = i .there (fine-placed f _ h) .case in
     record { fine = grown-fine f h px G; kept = grown-kept f h px G; case = (falls (fine-placed f _ h) (f .rising _ h) G, grown-has f h px G) }
 put-turned Full f h px i =
-    let (a, b, e, new) = i .case in
+    let (a, b, e, new) = i .there (fine-placed f _ h) .case in
     record { fine = same-fine a b f; kept = same-kept a b; case = over-full f h px e new }
 
 -- ── steps in a row ──

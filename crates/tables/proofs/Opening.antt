@@ -9,12 +9,11 @@ use Rattle.lists.proofs.Order.{by-order}
 use Rattle.lists.proofs.Parts.{getD-part, place-long, getD-before, getD-this}
 use Rattle.chains.specs.Limits.{max-members}
 use Rattle.book.specs.Reading.{kind-in}
-use Rattle.tables.specs.Sets.{members}
-use Rattle.tables.specs.Memory.{Placed}
+use Rattle.members.specs.Sets.{members, Placed}
 use Rattle.tables.specs.State.{width-in}
 use Rattle.tables.specs.Visit.{max-turns, size-of, Opened, Taken, Sized, Opening}
 use Rattle.tables.specs.declared.gather.Visit.{Visit}
-use Rattle.tables.proofs.Members.{members-long}
+use Rattle.members.proofs.Ranked.{members-long}
 
 -- one place of a list set
 set-here : (l l′ : List ℕ) (j x : ℕ) → l′ ≡ set l j x → j < length l → getD l′ j 0 ≡ x

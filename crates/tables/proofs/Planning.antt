@@ -13,12 +13,11 @@ use Rattle.chains.proofs.Gather.{result-open}
 use Rattle.book.specs.Format.{entry, prods, grammar}
 use Rattle.book.specs.Reading.{kind-in}
 use Rattle.bookcheck.proofs.Accepted.{Accepted, arity-read, kind-in-read}
-use Rattle.tables.specs.Sets.{Has, member}
-use Rattle.tables.specs.Memory.{Placed}
+use Rattle.members.specs.Sets.{Has, member, Placed}
 use Rattle.tables.specs.State.{width-in, based}
 use Rattle.tables.specs.Visit.{max-turns, slot-of, width-of, size-of, code-of, Yields, Ready, Standing, InOrder, Opening, Prepared}
 use Rattle.tables.specs.declared.gather.Visit.{Visit}
-use Rattle.tables.proofs.Members.{ranked-has, rank-of}
+use Rattle.members.proofs.Ranked.{ranked-has, rank-of}
 use Rattle.tables.proofs.StateBase.{few-kids, width-is, few-settings, readable, base-state}
 use Rattle.tables.proofs.StateWalk.{base-whole, base-result}
 use Rattle.tables.proofs.Yielding.{Among, Planned, yields-result}

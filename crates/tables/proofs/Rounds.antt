@@ -9,8 +9,8 @@ use Rattle.chains.specs.Limits.{max-prods}
 use Rattle.tables.specs.Memory.{Fine, Turned}
 use Rattle.tables.specs.Turns.{joined, beyond}
 use Rattle.tables.specs.Sweep.{Attended}
-use Rattle.tables.specs.declared.sets.Turn.{Turn}
-use Rattle.tables.specs.declared.sets.Turn.the-variants.{Still, Added, Full}
+use Rattle.members.specs.declared.Turn.{Turn}
+use Rattle.members.specs.declared.Turn.the-variants.{Still, Added, Full}
 use Rattle.tables.proofs.Memory.{kept-refl, kept-trans, turned-map, Lasts}
 
 -- where no set is over-full, what a turn was to bring about holds

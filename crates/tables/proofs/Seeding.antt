@@ -12,11 +12,11 @@ use Rattle.lists.proofs.Order.{by-order}
 use Rattle.lists.proofs.Parts.{place-long, place-this, getD-before, getD-after}
 use Rattle.lists.proofs.Room.{room-falls}
 use Rattle.chains.specs.Limits.{max-members}
-use Rattle.tables.specs.Sets.{members, Has, member}
+use Rattle.members.specs.Sets.{members, Has, member}
 use Rattle.tables.specs.Memory.{Fine, Kept, room}
 use Rattle.slices.specs.Slices.{cleared}
 use Rattle.tables.specs.Downward.{Seeded}
-use Rattle.tables.proofs.Members.{members-long}
+use Rattle.members.proofs.Ranked.{members-long}
 use Rattle.slices.proofs.Cleared.{cleared-long, cleared-at}
 use Rattle.tables.proofs.Memory.{fine-placed, every}
 

@@ -18,7 +18,6 @@ use Rattle.lists.specs.Part.{part, place}
 use Rattle.lists.specs.Sought.{Free, Least}
 use Rattle.lists.proofs.Sought.{free-more, free-fewer, least-once}
 use Rattle.lists.proofs.Parts.{length-part, getD-part}
-use Rattle.lists.proofs.Copied.{Copying, copy-turn, copy-done}
 use Rattle.lists.proofs.Carry.{placed}
 use Rattle.chains.specs.Limits.{max-settings}
 use Rattle.chains.specs.Grouping.{label, unpack}
@@ -300,12 +299,3 @@ module _ {s t : List ℕ} {from o : ℕ} where
     holds = λ e. absurd (true≢false (sym e));
     fails = λ _ p. n (ap (λ (u : List ℕ). getD u o 0) (sym p) ∙ getD-part from labels t o 0 l);
   }
-
--- ---- a state put into a list
-pub copied : {s t₀ t : List ℕ} {from o : ℕ} → Copying s t₀ 0 from labels t o → labels ≤ o → length s ≡ labels → t ≡ place from s t₀
-copied {s} {t₀} {t} {from} {o} h l a = copy-done h l ∙ ap (λ (u : List ℕ). place from u t₀) (take-all labels s (omega arith))
-
-pub copy-next : {s t₀ t : List ℕ} {from o : ℕ} → Copying s t₀ 0 from labels t o → o < labels → Copying s t₀ 0 from labels (set t (from + o) (getD s o 0)) (o + 1)
-copy-next {s} {t₀} {t} {from} {o} h l =
-    let e : 0 + o ≡ o = omega arith in
-    rw e at (copy-turn h l)

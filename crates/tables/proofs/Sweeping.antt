@@ -12,12 +12,13 @@ use lib.ListN.{length, getD, set}
 use lib.Seq.{getD-set-same, getD-set-other}
 use Rattle.lists.proofs.Order.{by-order}
 use Rattle.chains.specs.Limits.{max-prods, max-members}
-use Rattle.tables.specs.Sets.{Has, Holds}
+use Rattle.members.specs.Sets.{Has}
+use Rattle.tables.specs.Sets.{Holds}
 use Rattle.tables.specs.Memory.{Fine, Kept, Turned, room}
 use Rattle.tables.specs.Visit.{Gathered}
 use Rattle.tables.specs.Sweep.{Since, Served, total, Marked, Attended, Swept, Exact}
-use Rattle.tables.specs.declared.sets.Turn.{Turn}
-use Rattle.tables.specs.declared.sets.Turn.the-variants.{Still, Added, Full}
+use Rattle.members.specs.declared.Turn.{Turn}
+use Rattle.members.specs.declared.Turn.the-variants.{Still, Added, Full}
 use Rattle.tables.proofs.Memory.{kept-refl, kept-trans, equal-counts}
 use Rattle.tables.proofs.Rounds.{turned-done}
 use Rattle.tables.proofs.Holds.{holds-fine}

@@ -9,8 +9,8 @@ use Rattle.lists.proofs.Order.{by-order}
 use Rattle.tables.specs.State.{based}
 use Rattle.tables.specs.Seen.{seen-bytes}
 use Rattle.tables.specs.Visit.{size-of, code-of, chosen, Yields, Gathers, Done, Request, Reply, Barren, Prepared}
-use Rattle.tables.specs.declared.sets.Turn.{Turn}
-use Rattle.tables.specs.declared.sets.Turn.the-variants.{Still}
+use Rattle.members.specs.declared.Turn.{Turn}
+use Rattle.members.specs.declared.Turn.the-variants.{Still}
 use Rattle.tables.specs.declared.gather.Visit.{Visit}
 use Rattle.tables.proofs.Memory.{kept-refl}
 use Rattle.tables.proofs.StatesSeen.{stored-none}

@@ -9,11 +9,11 @@ use Rattle.lists.specs.Part.{place}
 use Rattle.chains.specs.Limits.{max-members}
 use Rattle.chains.specs.Steps.{StepDown}
 use Rattle.book.specs.Format.{kinds, prods, grammar}
-use Rattle.tables.specs.Sets.{members, Has}
+use Rattle.members.specs.Sets.{members, Has}
 use Rattle.tables.specs.Memory.{Turned}
 use Rattle.tables.specs.Visit.{Gathered, OldOr}
 use Rattle.tables.specs.Sweep.{Served, Marked}
-use Rattle.tables.specs.declared.sets.Turn.{Turn}
+use Rattle.members.specs.declared.Turn.{Turn}
 
 -- ── a visit for the child in slot t ──
 -- the slot of turn j: t first, so that it is tied last, then the others in order

@@ -14,7 +14,7 @@ use Rattle.chains.specs.Grouping.{Says, Proper, Each}
 use Rattle.chains.specs.Feasible.{Chosen}
 use Rattle.book.specs.Format.{occ}
 use Rattle.ranks.specs.Entries.{Ranks, up-entry, down-entry, labels, entry-bytes, none}
-use Rattle.tables.specs.Sets.{member}
+use Rattle.members.specs.Sets.{member}
 
 -- the groupings that they stand for
 unfoldable pub picked : List ℕ → List ℕ → List ℕ → List ℕ

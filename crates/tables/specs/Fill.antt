@@ -10,7 +10,7 @@ use Rattle.chains.specs.Grammar.{Grammar, width}
 use Rattle.chains.specs.Labels.{joins}
 use Rattle.chains.specs.State.{code-pairs, code-on}
 use Rattle.ranks.specs.Entries.{Ranks, choices, choice, up-entry, down-entry, labels, entry-bytes, none}
-use Rattle.tables.specs.Sets.{Has, member}
+use Rattle.members.specs.Sets.{Has, member}
 use Rattle.tables.specs.Entries.{picked, Upward, Downward, Ranked, DownEntry}
 use Rattle.tables.specs.State.{State, Whole, tidied}
 use Rattle.tables.specs.Shape.{kind-of, width-of, kinds-from, Sized, AllPlaced}

@@ -1,55 +1,15 @@
 -- The sets while they are worked out, for any family P of what may stand in them.
 use mathlib.Core.Path.{_≡_}
-use mathlib.Core.Bool.{Bool, true, false}
-use mathlib.Core.List.{List, List·Memᴰ}
-use Prim.Native.Nat.{ℕ, suc, _+_, _*_, _≤_, _<_}
-use lib.ListN.{length, getD, set}
-use Rattle.lists.specs.Part.{place}
-use Rattle.lists.specs.Rising.{Rising, insert}
+use mathlib.Core.List.{List}
+use Prim.Native.Nat.{ℕ, _*_, _≤_, _<_}
+use lib.ListN.{length, getD}
+use Rattle.lists.specs.Rising.{Rising}
 use Rattle.lists.specs.Room as lists
-use Rattle.lists.specs.Sought.{Free}
 use Rattle.chains.specs.Limits.{max-members}
-use Rattle.tables.specs.Sets.{members, Has, member, Over}
-use Rattle.tables.specs.declared.sets.Turn.{Turn}
-use Rattle.tables.specs.declared.sets.Turn.the-variants.{Still, Added, Full}
+use Rattle.members.specs.Sets.{members, Has, member, Case}
+use Rattle.tables.specs.Sets.{Over}
+use Rattle.members.specs.declared.Turn.{Turn}
 
--- ── one kind ──
--- its places are there, and its count is one
-pub record Placed (s c : List ℕ) (k : ℕ) : Type 0 where
-  pub there : k * max-members + max-members ≤ length s
-  pub here : k < length c
-  pub few : getD c k 0 ≤ max-members
-
--- r is the first of the n places from base on that holds x; n, where none does
-pub record Search (s : List ℕ) (base n x r : ℕ) : Type 0 where
-  pub within : r ≤ n
-  pub found : r < n → getD s (base + r) 0 ≡ x
-  pub missed : Free (λ i. getD s (base + i) 0 ≡ x) r
-
--- r tells whether x is in l
-pub record Seen (l : List ℕ) (x : ℕ) (r : Bool) : Type 0 where
-  pub yes : r ≡ true → List·Memᴰ x l
-  pub no : r ≡ false → List·Memᴰ x l → ⊥
-
-abbrev pub Case : Turn → Type 0 → Type 0 → Type 0 → Type 0
-Case Still A B C = A
-Case Added A B C = B
-Case Full A B C = C
-
--- x is put into kind k's set, which had room for it
-pub record Grown (k x : ℕ) (s c s′ c′ : List ℕ) : Type 0 where
-  pub free : getD c k 0 < max-members
-  pub new : Has s c k x → ⊥
-  pub held : s′ ≡ place (k * max-members) (insert x (members s c k)) s
-  pub counted : c′ ≡ set c k (suc (getD c k 0))
-
--- what putting x into kind k's set leaves: it was there; it is there now; or it is new and there is no place for it
-pub record Put (k x : ℕ) (s c s′ c′ : List ℕ) (r : Turn) : Type 0 where
-  pub case : Case r ((s′ ≡ s) × (c′ ≡ c) × Has s c k x)
-      (Grown k x s c s′ c′)
-      ((s′ ≡ s) × (c′ ≡ c) × (getD c k 0 ≡ max-members) × (Has s c k x → ⊥))
-
--- ── all kinds ──
 -- the first n kinds have rising sets of what has P, zeros behind
 pub record Fine (n : ℕ) (P : ℕ → ℕ → Type 0) (s c : List ℕ) : Type 0 where
   pub there : n * max-members ≤ length s

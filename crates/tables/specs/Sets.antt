@@ -1,24 +1,12 @@
--- Sets of groupings in lent memory: 64 places for each kind, and its count beside it.
+-- What the sets of all kinds hold once they are built, or that they cannot.
 use mathlib.Core.Path.{_≡_}
 use mathlib.Core.Logic.{_↔_}
 use mathlib.Core.List.{List, List·Memᴰ}
-use Prim.Native.Nat.{ℕ, suc, _+_, _*_, _≤_, _<_}
+use Prim.Native.Nat.{ℕ, suc, _*_, _≤_, _<_}
 use lib.ListN.{length, getD}
-use Rattle.lists.specs.Part.{part}
 use Rattle.lists.specs.Rising.{Rising}
 use Rattle.chains.specs.Limits.{max-members}
-
--- the members of kind k in the sets s, of which c has the counts
-abbrev pub members : List ℕ → List ℕ → ℕ → List ℕ
-members s c k = part (k * max-members) (getD c k 0) s
-
--- x is one of them
-abbrev pub Has : List ℕ → List ℕ → ℕ → ℕ → Type 0
-Has s c k x = List·Memᴰ x (members s c k)
-
--- the member of kind k at rank r
-abbrev pub member : List ℕ → ℕ → ℕ → ℕ
-member s k r = getD s (k * max-members + r) 0
+use Rattle.members.specs.Sets.{members, Has, member}
 
 -- 65 different numbers have P for one of the first n kinds
 pub record Over (n : ℕ) (P : ℕ → ℕ → Type 0) : Type 0 where

@@ -5,11 +5,12 @@ use mathlib.Core.Bool.{Bool, true, false}
 use mathlib.Core.List.{List}
 use Prim.Native.Nat.{ℕ, zero, suc, _+_, _<_}
 use lib.ListN.{getD}
-use Rattle.tables.specs.Sets.{Has, Over, Holds}
+use Rattle.members.specs.Sets.{Has}
+use Rattle.tables.specs.Sets.{Over, Holds}
 use Rattle.tables.specs.Memory.{Fine, Kept, Turned}
 use Rattle.tables.specs.Visit.{Gathered}
-use Rattle.tables.specs.declared.sets.Turn.{Turn}
-use Rattle.tables.specs.declared.sets.Turn.the-variants.{Full}
+use Rattle.members.specs.declared.Turn.{Turn}
+use Rattle.members.specs.declared.Turn.the-variants.{Full}
 
 -- step A x: the step gives x for sets that have A. Some time since s₀, c₀, all that it gave for the sets as they stood was put into kind k's set, and it is there
 pub record Since (n : ℕ) (step : (ℕ → ℕ → Type 0) → ℕ → Type 0) (k : ℕ) (s₀ c₀ s c : List ℕ) : Type 0 where

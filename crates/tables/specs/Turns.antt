@@ -1,7 +1,7 @@
 -- Attempts one after another: what they have come to, and which is next.
 use Prim.Native.Nat.{ℕ, _+_}
-use Rattle.tables.specs.declared.sets.Turn.{Turn}
-use Rattle.tables.specs.declared.sets.Turn.the-variants.{Still, Added, Full}
+use Rattle.members.specs.declared.Turn.{Turn}
+use Rattle.members.specs.declared.Turn.the-variants.{Still, Added, Full}
 
 -- what so many have come to, after one more
 abbrev pub joined : Turn → Turn → Turn

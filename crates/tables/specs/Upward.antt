@@ -4,11 +4,11 @@ use Prim.Native.Nat.{ℕ, _<_}
 use lib.ListN.{length, getD}
 use Rattle.chains.specs.Steps.{StepUp}
 use Rattle.book.specs.Format.{kinds, prods, grammar}
-use Rattle.tables.specs.Sets.{Has}
+use Rattle.members.specs.Sets.{Has}
 use Rattle.tables.specs.Memory.{Turned}
 use Rattle.tables.specs.Visit.{Gathered, OldOr}
 use Rattle.tables.specs.Sweep.{Served, Marked}
-use Rattle.tables.specs.declared.sets.Turn.{Turn}
+use Rattle.members.specs.declared.Turn.{Turn}
 
 -- production p's one step, for its left kind, watches its children's kinds
 abbrev pub up-step : List ℕ → ℕ → ℕ → (ℕ → ℕ → Type 0) → ℕ → Type 0

@@ -11,12 +11,12 @@ use Rattle.chains.specs.Limits.{max-settings, max-kids, max-members}
 use Rattle.chains.specs.Labels.{joins}
 use Rattle.chains.specs.State.{dropped, code-on, code-pairs}
 use Rattle.book.specs.Reading.{kind-in}
-use Rattle.tables.specs.Sets.{members, member, Has}
+use Rattle.members.specs.Sets.{members, Has, member}
 use Rattle.tables.specs.Memory.{Fine, Turned}
 use Rattle.tables.specs.State.{State, Whole, Readable, width-in, based, tidied}
 use Rattle.tables.specs.Seen.{Stored}
-use Rattle.tables.specs.declared.sets.Turn.{Turn}
-use Rattle.tables.specs.declared.sets.Turn.the-variants.{Full}
+use Rattle.members.specs.declared.Turn.{Turn}
+use Rattle.members.specs.declared.Turn.the-variants.{Full}
 use Rattle.tables.specs.declared.gather.Visit.{Visit}
 
 -- the slots that a production can have, and as many turns

@@ -8,16 +8,14 @@ ghost use Rattle.chains.specs.Feasible.{Feasible};
 ghost use Rattle.book.specs.Format.{arity-at, entry, kinds, prods, grammar};
 ghost use Rattle.book.specs.Reading.{told, kind-in, Index};
 ghost use Rattle.bookcheck.proofs.Accepted.{Accepted};
-ghost use Rattle.tables.specs.Sets.{Has};
-ghost use Rattle.tables.specs.Memory.{Placed, Fine, Turned};
+ghost use Rattle.members.specs.Sets.{Has, Placed};
+ghost use Rattle.tables.specs.Memory.{Fine, Turned};
 ghost use Rattle.tables.specs.Visit.{max-turns, Opened, Opening};
 ghost use Rattle.tables.specs.Sweep.{Attended, Swept, Exact, Outcome};
 ghost use Rattle.tables.specs.Downward.{slot-down, given, DownVisited, DownServed, DownMarks, DownSwept, DownClosed, Seeded};
 use super::gather::Visit;
 use super::sets::MAX_MEMBERS;
-use super::sets::Turn;
 use super::sets::copy_members;
-use super::sets::count;
 use super::turns::beyond;
 use super::turns::joined;
 use super::visit::LIST_PLACES;
@@ -28,6 +26,7 @@ use super::visit::visit;
 use super::widen::narrow;
 use super::widen::wide;
 use super::widen::word;
+use members::Turn;
 
 // The slot of turn j in a visit for the child in slot t, which is tied last.
 fn slot_down(t: u8, j: u8) -> u8
@@ -257,8 +256,9 @@ fn seed(book: &[u8], plausible: &[u32], counts: &[u8], feasible: &mut [u32], tal
     ensures { λ _. ⌜ Seeded (told (now (book .entry)) 3) (now (plausible .entry)) (now (counts .entry)) (now (feasible .entry)) (now (tally .entry)) (now (feasible .exit)) (now (tally .exit)) ⌝ }
 {
     let k = book::start(book) as usize;
-    copy_members(plausible, k, count(counts, k), feasible, k * MAX_MEMBERS);
-    tally[k] = counts[k];
+    let n = counts[k];
+    copy_members(plausible, k, n as usize, feasible, k * MAX_MEMBERS);
+    tally[k] = n;
 }
 
 // The feasible groupings of every kind, from the plausible ones; false where some kind has over 64 of them. Whatever stood in the sets before decides

@@ -9,11 +9,9 @@ ghost use Rattle.tables.specs.State.{State, tidied};
 ghost use Rattle.tables.specs.Fill.{InPlace, Listed, RankOn, ChildRank, ChildRanks, Rankable, Entry, entry-size, Laid};
 use super::labels::LABELS;
 use super::labels::NONE;
-use super::labels::copy_state;
 use super::labels::tidy;
 use super::labels::view;
-use super::sets::count;
-use super::sets::rank;
+use super::sets::MAX_MEMBERS;
 use super::shape::Shape;
 use ranks::ENTRY;
 
@@ -32,7 +30,7 @@ fn rank_on(v: Shape, slot: usize, s: &[u8; LABELS], sets: &[u32], counts: &[u8])
 {
     let kind = v.kinds[slot] as usize;
     let code = view(s, slot as u8, v.widths[slot]);
-    rank(sets, kind, count(counts, kind), code) as u8
+    members::place_of(sets, kind * MAX_MEMBERS, counts[kind] as usize, code) as u8
 }
 
 // The rank of a child, from 0 on; NONE where there is no such child.
@@ -65,7 +63,7 @@ fn put_labels(s: &[u8; LABELS], out: &mut [u8], at: usize)
 {
     let mut t = *s;
     tidy(&mut t);
-    copy_state(&t, out, at);
+    slices::lay(out, at, &t);
 }
 
 // An up entry: the rank of what the state shows on slot 0. The answer is the place behind it.

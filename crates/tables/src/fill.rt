@@ -8,7 +8,7 @@ ghost use Rattle.chains.specs.Plausible.{Plausible};
 ghost use Rattle.chains.specs.Feasible.{Feasible};
 ghost use Rattle.book.specs.Format.{kinds, prods, grammar};
 ghost use Rattle.ranks.specs.Entries.{choices, entry-bytes};
-ghost use Rattle.tables.specs.Sets.{member};
+ghost use Rattle.members.specs.Sets.{member};
 ghost use Rattle.tables.specs.Entries.{UpTable, DownTable};
 ghost use Rattle.tables.specs.Promise.{up-entries, down-entries, Written};
 ghost use Rattle.tables.specs.Shape.{kind-of, kinds-from, Sized, Opened};
@@ -21,7 +21,6 @@ use super::labels::NONE;
 use super::labels::base;
 use super::labels::tie;
 use super::sets::MAX_MEMBERS;
-use super::sets::count;
 use super::shape::Shape;
 use super::shape::shape_of;
 
@@ -34,7 +33,7 @@ fn members_on(v: Shape, slot: u8, counts: &[u8]) -> usize
     requires { ⌜ (v .arity ≤ max-kids) × (slot ≤ v .arity) × (kind-of v slot < length (now counts)) ⌝ }
     ensures { λ r. ⌜ r ≡ getD (now (counts .entry)) (kind-of v slot) 0 ⌝ }
 {
-    count(counts, v.kinds[slot as usize] as usize)
+    counts[v.kinds[slot as usize] as usize] as usize
 }
 
 // The state t becomes s with a member tied to a slot.

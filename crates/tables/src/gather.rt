@@ -5,12 +5,11 @@ ghost use lib.ListN.{length};
 ghost use Rattle.chains.specs.Limits.{max-kids};
 ghost use Rattle.chains.specs.State.{code-on};
 ghost use Rattle.ranks.specs.Entries.{labels};
-ghost use Rattle.tables.specs.Memory.{Put};
+ghost use Rattle.members.specs.Sets.{Put};
 ghost use Rattle.tables.specs.Visit.{max-turns, Ready, Standing, InOrder, released, chosen, Request, Reply};
 use super::labels::LABELS;
 use super::labels::NONE;
 use super::labels::SLOTS;
-use super::labels::copy_state;
 use super::labels::forget;
 use super::labels::tidy;
 use super::labels::tie;
@@ -18,10 +17,9 @@ use super::labels::view;
 use super::seen::known;
 use super::seen::remember;
 use super::sets::MAX_MEMBERS;
-use super::sets::Turn;
-use super::sets::put;
 use super::turns::beyond;
 use super::turns::joined;
+use members::Turn;
 
 // A visit of a production: the slots whose codes are chosen, in turn, the last one first, each with its number of settings and of codes; and the
 // slot that the results are seen on, with its number of settings and its kind.
@@ -50,7 +48,7 @@ fn choose(v: Visit, j: usize, code: u32, s: &[u8; LABELS], t: &mut [u8; LABELS])
     ensures { λ _. ⌜ now (t .exit) ≡ chosen v j code (now (s .entry)) ⌝ }
 {
     let slot = v.slots[j];
-    copy_state(s, t, 0);
+    *t = *s;
     tie(t, slot, v.widths[j], code);
     release(t, slot, v.target);
     tidy(t);
@@ -61,7 +59,7 @@ fn enter(v: Visit, s: &[u8; LABELS], sets: &mut [u32], counts: &mut [u8]) -> Tur
     requires { ⌜ Ready v 0 × Standing v 0 (now s) × InOrder (v .kind) (now sets) (now counts) ⌝ }
     ensures { λ r. ⌜ Put (v .kind) (code-on (v .target) (v .width) (now (s .entry))) (now (sets .entry)) (now (counts .entry)) (now (sets .exit)) (now (counts .exit)) r ⌝ }
 {
-    put(sets, counts, v.kind as usize, view(s, v.target, v.width))
+    members::put(sets, counts, v.kind as usize, view(s, v.target, v.width))
 }
 
 // Whatever comes of the state s by choices for the turns before j is put into the kind's set. The state may have been met before: then all of that is

@@ -5,11 +5,11 @@ ghost use Prim.Native.Nat.{_+_, _*_, _^_, _<_, _≤_};
 ghost use lib.ListN.{length};
 ghost use lib.Dec.{eqb};
 ghost use Rattle.lists.specs.Pick.{pick};
-ghost use Rattle.lists.specs.Part.{part, place};
+ghost use Rattle.lists.specs.Part.{part};
 ghost use Rattle.lists.specs.Sought.{Least};
 ghost use Rattle.chains.specs.Limits.{max-settings, max-kids};
 ghost use Rattle.chains.specs.Grouping.{label};
-ghost use Rattle.chains.specs.Labels.{swap, relabel, joinAt, joins};
+ghost use Rattle.chains.specs.Labels.{joinAt, joins};
 ghost use Rattle.chains.specs.State.{code-pairs, dropped, code-on};
 ghost use Rattle.bookcheck.specs.Search.{Tells};
 ghost use Rattle.ranks.specs.Entries.{labels, none};
@@ -27,25 +27,6 @@ pub const NONE: u8 = ranks::NONE;
 
 // ---- joining
 
-// x, or a where it is b.
-fn swapped(x: u8, a: u8, b: u8) -> u8
-    ensures { λ r. ⌜ r ≡ swap a b x ⌝ }
-{
-    if x == b { a } else { x }
-}
-
-// The label b becomes a everywhere.
-fn recolour(s: &mut [u8; LABELS], a: u8, b: u8)
-    requires { ⌜ length (now s) ≡ labels ⌝ }
-    ensures { λ _. ⌜ now (s .exit) ≡ relabel a b (now (s .entry)) ⌝ }
-{
-    let mut holder = 0;
-    while holder < LABELS {
-        s[holder] = swapped(s[holder], a, b);
-        holder += 1;
-    }
-}
-
 // The groups of i and j become one.
 pub fn merge(s: &mut [u8; LABELS], i: usize, j: usize)
     requires { ⌜ (i < labels) × (j < labels) × (length (now s) ≡ labels) ⌝ }
@@ -54,7 +35,7 @@ pub fn merge(s: &mut [u8; LABELS], i: usize, j: usize)
     let a = s[i];
     let b = s[j];
     if a != b {
-        recolour(s, a, b);
+        slices::relabel(s, a, b);
     }
 }
 
@@ -259,16 +240,4 @@ pub fn same_state(s: &[u8; LABELS], t: &[u8], from: usize) -> bool
         o += 1;
     }
     true
-}
-
-// The labels put into t, from a place on.
-pub fn copy_state(s: &[u8; LABELS], t: &mut [u8], from: usize)
-    requires { ⌜ (length (now s) ≡ labels) × (from + labels ≤ length (now t)) ⌝ }
-    ensures { λ _. ⌜ now (t .exit) ≡ place from (now (s .entry)) (now (t .entry)) ⌝ }
-{
-    let mut o = 0;
-    while o < LABELS {
-        t[from + o] = s[o];
-        o += 1;
-    }
 }

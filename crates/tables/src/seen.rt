@@ -7,7 +7,6 @@ ghost use lib.ListN.{length};
 ghost use Rattle.ranks.specs.Entries.{labels};
 ghost use Rattle.tables.specs.Seen.{places, levels, seen-bytes, filled, advanced, Found, remembered};
 use super::labels::LABELS;
-use super::labels::copy_state;
 use super::labels::same_state;
 use super::widen::wide;
 
@@ -60,6 +59,6 @@ pub fn remember(seen: &mut [u8], level: usize, s: &[u8; LABELS])
 {
     let base = level * LEVEL_BYTES;
     let counter = seen[base];
-    copy_state(s, seen, base + 1 + wide(counter) % PLACES * LABELS);
+    slices::lay(seen, base + 1 + wide(counter) % PLACES * LABELS, s);
     seen[base] = advanced(counter);
 }

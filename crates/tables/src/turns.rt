@@ -2,7 +2,7 @@
 ghost use mathlib.Core.Path.{_≡_};
 ghost use Prim.Native.Nat.{_<_};
 ghost use Rattle.tables.specs.Turns.{joined, beyond};
-use super::sets::Turn;
+use members::Turn;
 
 // What attempts have come to, after one more.
 pub fn joined(so: Turn, new: Turn) -> Turn

@@ -7,14 +7,13 @@ ghost use Rattle.chains.specs.Plausible.{Plausible};
 ghost use Rattle.book.specs.Format.{arity-at, entry, kinds, prods, grammar};
 ghost use Rattle.book.specs.Reading.{kind-in, kid-at, Index};
 ghost use Rattle.bookcheck.proofs.Accepted.{Accepted};
-ghost use Rattle.tables.specs.Sets.{Has};
-ghost use Rattle.tables.specs.Memory.{Placed, Fine};
+ghost use Rattle.members.specs.Sets.{Has, Placed};
+ghost use Rattle.tables.specs.Memory.{Fine};
 ghost use Rattle.tables.specs.Visit.{max-turns, Opening};
 ghost use Rattle.tables.specs.Sweep.{total, Attended, Swept, Outcome};
 ghost use Rattle.tables.specs.Upward.{UpVisited, UpServed, UpMarks, UpSwept, UpClosed};
 use super::gather::Visit;
 use super::sets::MAX_MEMBERS;
-use super::sets::Turn;
 use super::turns::beyond;
 use super::turns::joined;
 use super::visit::LIST_PLACES;
@@ -23,6 +22,7 @@ use super::visit::looking_at;
 use super::visit::open_turn;
 use super::visit::visit;
 use super::widen::word;
+use members::Turn;
 
 // The children in turn, from the first; the results are seen on the left kind.
 fn prepare_up(book: &[u8], at: usize, sets: &[u32], counts: &[u8], lists: &mut [u32]) -> Visit

@@ -6,7 +6,7 @@ ghost use Prim.Native.Nat.{ℕ, _*_, _<_, _≤_};
 ghost use lib.ListN.{length};
 ghost use Rattle.chains.specs.Limits.{max-members};
 ghost use Rattle.book.specs.Reading.{kind-in};
-ghost use Rattle.tables.specs.Memory.{Placed};
+ghost use Rattle.members.specs.Sets.{Placed};
 ghost use Rattle.tables.specs.State.{based};
 ghost use Rattle.tables.specs.Visit.{max-turns, Yields, Gathers, Opening, Opened, Barren, Prepared};
 use super::gather::Visit;
@@ -18,9 +18,8 @@ use super::labels::base;
 use super::labels::width;
 use super::seen::SEEN_BYTES;
 use super::sets::MAX_MEMBERS;
-use super::sets::Turn;
 use super::sets::copy_members;
-use super::sets::count;
+use members::Turn;
 
 // A mark for each production, by which a visit is spared.
 pub const MARKS: usize = book::limits::MAX_PRODUCTIONS as usize;
@@ -57,11 +56,12 @@ pub fn open_turn(
     ensures { λ r. ⌜ Opened (now (book .entry)) at (now (sets .entry)) (now (counts .entry)) v j slot (now (lists .entry)) r (now (lists .exit)) ⌝ }
 {
     let kind = book::kind_in(book, at, slot) as usize;
-    copy_members(sets, kind, count(counts, kind), lists, j * MAX_MEMBERS);
+    let n = counts[kind];
+    copy_members(sets, kind, n as usize, lists, j * MAX_MEMBERS);
     let mut w = v;
     w.slots[j] = slot;
     w.widths[j] = width(book, at, slot);
-    w.sizes[j] = counts[kind];
+    w.sizes[j] = n;
     w
 }
 

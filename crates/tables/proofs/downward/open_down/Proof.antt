@@ -1,7 +1,7 @@
 -- A turn of a downward visit. Assumes nothing.
 use mathlib.Core.Path.{_≡_, sym, _∙_, subst₂}
 use Rattle.book.specs.Reading.{kind-in}
-use Rattle.tables.specs.Memory.{Placed}
+use Rattle.members.specs.Sets.{Placed}
 use Rattle.tables.specs.Downward.{slot-down}
 use Rattle.tables.proofs.DownwardVisit.{given-left, given-child}
 use native.Mathlib.Omega.{arith}

@@ -4,7 +4,7 @@ use Prim.Native.Nat.{_+_, _*_, _≤_}
 use lib.ListN.{length}
 use Rattle.chains.specs.Limits.{max-members}
 use Rattle.book.specs.Reading.{told}
-use Rattle.tables.specs.Memory.{Placed}
+use Rattle.members.specs.Sets.{Placed}
 use native.Mathlib.Omega.{arith}
 use borrow.Author.Needs.{needs}
 use Rattle.tables.proofs.downward.seed.Statement.{statement}
@@ -16,8 +16,11 @@ start-requires c κs = search needs
 cast-k : tie.Need-cast-k
 cast-k c = search needs
 
-count-requires : tie.Need-count-requires
-count-requires c κs = search needs
+shared-slice-read-n : tie.Need-shared-slice-read-n
+shared-slice-read-n c = search needs
+
+cast-copy-members : tie.Need-cast-copy-members
+cast-copy-members c = omega (arith, c .shared-slice-known4 .given (c .before .start .result))
 
 mul-copy-members : tie.Need-mul-copy-members
 mul-copy-members c = search needs
@@ -30,9 +33,6 @@ copy-members-requires c κs =
     let h : k * max-members + max-members ≤ length (c .before .before .before .before .before .before .before .before .args .feasible .now) = rw e (c .before .before .before .before .before .before .before .before .pre .1) in
     (omega (arith, q .there, q .few), omega (arith, q .few))
 
-shared-slice-read-tally : tie.Need-shared-slice-read-tally
-shared-slice-read-tally c = search needs
-
 slice-write-tally : tie.Need-slice-write-tally
 slice-write-tally c = search needs
 
@@ -43,10 +43,9 @@ same-length-2 : tie.Need-same-length-2
 same-length-2 c = search needs
 
 returns : tie.Need-returns
-returns c = record {
-  held = c .before .before .before .copy-members .ensures ∙ rw (c .before .before .before .before .before .count .ensures .0, c .before .before .before .before .before .before .start .ensures);
-  counted = rw (c .before .before .before .before .before .before .start .ensures);
-}
+returns c =
+    let e = c .before .before .before .before .before .start .ensures in
+    record { held = c .before .before .copy-members .ensures ∙ rw e; counted = rw e }
 
 pub seed-spec : {M : Type 1} → statement M
 seed-spec =
@@ -54,10 +53,10 @@ seed-spec =
     (tie.spec
     start-requires
     cast-k
-    count-requires
+    shared-slice-read-n
+    cast-copy-members
     mul-copy-members
     copy-members-requires
-    shared-slice-read-tally
     slice-write-tally
     same-length
     same-length-2

@@ -1,8 +1,7 @@
 -- The rank of what a state shows on a slot. Assumes nothing.
-use mathlib.Core.Path.{refl}
 use native.Mathlib.Omega.{arith}
-use Rattle.tables.proofs.FillEntry.{kind-there, rank-there, rank-is, rank-small}
 use borrow.Author.Needs.{needs}
+use Rattle.tables.proofs.FillEntry.{kind-there, size-fits, rank-is, rank-small}
 use Rattle.tables.proofs.entry.rank_on.Statement.{statement}
 use Rattle.tables.proofs.entry.rank_on.Tie as tie
 
@@ -25,17 +24,23 @@ view-requires c κs =
     let t = o .args .slot in
     (h .ready .state, omega (arith, h .sized .arity), h .sized .widths t (o .pre .1), h .ready .whole t (o .pre .1))
 
-count-requires : tie.Need-count-requires
-count-requires c κs = kind-there (c .before .before .before .before .before .pre .0) (c .before .before .before .before .before .args .slot) (c .before .before .before .before .before .pre .1) (refl)
+mul-place-of : tie.Need-mul-place-of
+mul-place-of c = omega (arith, c .before .before .before .before .before .pre .0 .placed (c .before .before .before .before .before .args .slot) (c .before .before .before .before .before .pre .1) .there)
 
-rank-requires : tie.Need-rank-requires
-rank-requires c κs = rank-there (c .before .before .before .before .before .before .pre .0) (c .before .before .before .before .before .before .args .slot) (c .before .before .before .before .before .before .pre .1) (refl) (c .count .ensures .0) (c .before .view .ensures) (c .before .before .before .before .before .before .pre .2)
+shared-slice-read-place-of : tie.Need-shared-slice-read-place-of
+shared-slice-read-place-of c = kind-there (c .before .before .before .before .before .before .pre .0) (c .before .before .before .before .before .before .args .slot) (c .before .before .before .before .before .before .pre .1)
+
+cast-place-of : tie.Need-cast-place-of
+cast-place-of c = omega (arith, size-fits (c .before .before .before .before .before .before .pre .0) (c .before .before .before .before .before .before .args .slot) (c .before .before .before .before .before .before .pre .1))
+
+place-of-requires : tie.Need-place-of-requires
+place-of-requires c κs = search needs
 
 cast-result : tie.Need-cast-result
-cast-result c = omega (arith, rank-small (c .before .before .before .before .before .before .before .pre .0) (c .before .before .before .before .before .before .before .args .slot) (c .before .before .before .before .before .before .before .pre .1) (refl) (c .before .count .ensures .0) (c .before .before .view .ensures) (c .rank .ensures .0))
+cast-result c = omega (arith, rank-small (c .before .before .before .before .before .before .before .pre .0) (c .before .before .before .before .before .before .before .args .slot) (c .before .before .before .before .before .before .before .pre .1) (c .before .before .view .ensures) (c .before .before .before .before .before .before .before .pre .2) (c .place-of .ensures))
 
 returns : tie.Need-returns
-returns c = rank-is (c .before .before .before .before .before .before .before .pre .0) (c .before .before .before .before .before .before .before .args .slot) (c .before .before .before .before .before .before .before .pre .1) (refl) (c .before .count .ensures .0) (c .before .before .view .ensures) (c .rank .ensures)
+returns c = rank-is (c .before .before .before .before .before .before .before .pre .0) (c .before .before .before .before .before .before .before .args .slot) (c .before .before .before .before .before .before .before .pre .1) (c .before .before .view .ensures) (c .before .before .before .before .before .before .before .pre .2) (c .place-of .ensures)
 
 pub rank-on-spec : {M : Type 1} → statement M
 rank-on-spec =
@@ -46,7 +51,9 @@ rank-on-spec =
     cast-view
     element-copy-out-view
     view-requires
-    count-requires
-    rank-requires
+    mul-place-of
+    shared-slice-read-place-of
+    cast-place-of
+    place-of-requires
     cast-result
     returns)

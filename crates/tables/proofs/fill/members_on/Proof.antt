@@ -1,19 +1,31 @@
 -- The number of members of a slot's kind. Assumes nothing.
+use native.Mathlib.Omega.{arith}
 use borrow.Author.Needs.{needs}
+use lib.ListN.{getD}
 use Rattle.tables.proofs.fill.members_on.Statement.{statement}
 use Rattle.tables.proofs.fill.members_on.Tie as tie
 
-element-copy-out-count : tie.Need-element-copy-out-count
-element-copy-out-count c = search needs
+element-copy-out-result : tie.Need-element-copy-out-result
+element-copy-out-result c = search needs
 
-cast-count : tie.Need-cast-count
-cast-count c = search needs
+cast-result : tie.Need-cast-result
+cast-result c = search needs
 
-count-requires : tie.Need-count-requires
-count-requires c κs = search needs
+shared-slice-read-result : tie.Need-shared-slice-read-result
+shared-slice-read-result c = search needs
+
+cast-result-2 : tie.Need-cast-result-2
+cast-result-2 c = omega (arith, c .shared-slice-known .given (getD (c .before .before .args .t1 .kinds) (c .before .before .args .slot) 0))
 
 returns : tie.Need-returns
 returns c = search needs
 
 pub members-on-spec : {M : Type 1} → statement M
-members-on-spec = tie.close (tie.spec element-copy-out-count cast-count count-requires returns)
+members-on-spec =
+    tie.close
+    (tie.spec
+    element-copy-out-result
+    cast-result
+    shared-slice-read-result
+    cast-result-2
+    returns)

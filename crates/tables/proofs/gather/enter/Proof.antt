@@ -1,6 +1,5 @@
 -- What a state says on the slot looked at, put into the set. Assumes nothing.
 use borrow.Author.Needs.{needs}
-use Rattle.tables.proofs.Memory.{fine-placed}
 use Rattle.tables.proofs.gather.enter.Statement.{statement}
 use Rattle.tables.proofs.gather.enter.Tie as tie
 
@@ -11,9 +10,7 @@ view-requires : tie.Need-view-requires
 view-requires c κs = search needs
 
 put-requires : tie.Need-put-requires
-put-requires c κs =
-    let o = c .before .before .before .before .before .before .pre .2 in
-    (fine-placed (o .fine) _ (o .below), o .fine .rising _ (o .below))
+put-requires c κs = search needs
 
 same-length : tie.Need-same-length
 same-length c = search needs

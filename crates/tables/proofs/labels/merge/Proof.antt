@@ -11,8 +11,8 @@ element-copy-out-a c = search needs
 element-copy-out-b : tie.Need-element-copy-out-b
 element-copy-out-b c = search needs
 
-recolour-requires : tie.Need-recolour-requires
-recolour-requires c κs = search needs
+relabel-requires : tie.Need-relabel-requires
+relabel-requires c κs = search needs
 
 returns : tie.Need-returns
 returns c = search needs
@@ -22,4 +22,4 @@ returns-2 c = sym (join-same (c .before .before .before .args .s .now) _ _ (c .i
 
 pub merge-spec : {M : Type 1} → statement M
 merge-spec =
-    tie.close (tie.spec element-copy-out-a element-copy-out-b recolour-requires returns returns-2)
+    tie.close (tie.spec element-copy-out-a element-copy-out-b relabel-requires returns returns-2)

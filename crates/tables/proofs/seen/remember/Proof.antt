@@ -1,4 +1,5 @@
 -- A state put at a level. Assumes nothing.
+use native.Mathlib.Omega.{arith}
 use borrow.Author.Needs.{needs}
 use Rattle.tables.proofs.StatesSeen.{remember-put}
 use Rattle.tables.proofs.seen.remember.Statement.{statement}
@@ -10,20 +11,20 @@ mul-base c = search needs
 slice-read-counter : tie.Need-slice-read-counter
 slice-read-counter c = search needs
 
-add-copy-state : tie.Need-add-copy-state
-add-copy-state c = search needs
+add-lay : tie.Need-add-lay
+add-lay c = search needs
 
 wide-requires : tie.Need-wide-requires
 wide-requires c κs = search needs
 
-mul-copy-state : tie.Need-mul-copy-state
-mul-copy-state c = search needs
+mul-lay : tie.Need-mul-lay
+mul-lay c = search needs
 
-add-copy-state-2 : tie.Need-add-copy-state-2
-add-copy-state-2 c = search needs
+add-lay-2 : tie.Need-add-lay-2
+add-lay-2 c = search needs
 
-copy-state-requires : tie.Need-copy-state-requires
-copy-state-requires c κs = search needs
+lay-requires : tie.Need-lay-requires
+lay-requires c κs = search needs
 
 advanced-requires : tie.Need-advanced-requires
 advanced-requires c κs = search needs
@@ -35,7 +36,9 @@ same-length : tie.Need-same-length
 same-length c = search needs
 
 returns : tie.Need-returns
-returns c = remember-put (c .before .before .before .before .before .before .before .before .args .seen .now) (c .before .before .before .before .before .before .before .before .args .s .now) (c .before .before .before .before .before .before .before .before .args .level) (c .before .before .before .before .wide .ensures .0) (c .before .before .before .copy-state .ensures) (c .advanced .ensures)
+returns c =
+    let o = c .before .before .before .before .before .before .before .before .before in
+    remember-put (o .args .seen .now) (o .args .s .now) (o .args .level) (c .before .before .before .before .before .wide .ensures .0) (c .before .before .before .lay .ensures .room (omega (arith, o .pre .0, o .pre .1, o .pre .2, c .before .before .before .before .before .wide .ensures .0))) (c .advanced .ensures)
 
 pub remember-spec : {M : Type 1} → statement M
 remember-spec =
@@ -43,11 +46,11 @@ remember-spec =
     (tie.spec
     mul-base
     slice-read-counter
-    add-copy-state
+    add-lay
     wide-requires
-    mul-copy-state
-    add-copy-state-2
-    copy-state-requires
+    mul-lay
+    add-lay-2
+    lay-requires
     advanced-requires
     slice-write-seen
     same-length

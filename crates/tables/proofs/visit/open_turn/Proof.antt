@@ -1,6 +1,6 @@
 -- A turn given to a slot. Assumes nothing.
 use mathlib.Core.Path.{refl, _∙_}
-use Rattle.tables.specs.Memory.{Placed}
+use Rattle.members.specs.Sets.{Placed}
 use native.Mathlib.Omega.{arith}
 use borrow.Author.Needs.{needs}
 use Rattle.tables.proofs.visit.open_turn.Statement.{statement}
@@ -12,8 +12,11 @@ kind-in-requires c κs = search needs
 cast-kind : tie.Need-cast-kind
 cast-kind c = search needs
 
-count-requires : tie.Need-count-requires
-count-requires c κs = search needs
+shared-slice-read-n : tie.Need-shared-slice-read-n
+shared-slice-read-n c = search needs
+
+cast-copy-members : tie.Need-cast-copy-members
+cast-copy-members c = omega (arith, c .shared-slice-known4 .given (c .before .kind-in .result))
 
 mul-copy-members : tie.Need-mul-copy-members
 mul-copy-members c = search needs
@@ -33,9 +36,6 @@ width-requires c κs = search needs
 element-write-w-2 : tie.Need-element-write-w-2
 element-write-w-2 c = search needs
 
-shared-slice-read-w : tie.Need-shared-slice-read-w
-shared-slice-read-w c = search needs
-
 element-write-w-3 : tie.Need-element-write-w-3
 element-write-w-3 c = search needs
 
@@ -44,12 +44,13 @@ same-length c = search needs
 
 returns : tie.Need-returns
 returns c =
+    let e = c .before .before .before .before .before .before .kind-in .ensures in
     record {
       slots-now = refl;
-      widths-now = rw (c .before .width .ensures);
-      sizes-now = rw (c .before .before .before .before .before .before .before .kind-in .ensures);
+      widths-now = rw (c .width .ensures);
+      sizes-now = rw e;
       rest = (refl, refl, refl);
-      lists-now = c .before .before .before .before .copy-members .ensures ∙ rw (c .before .before .before .before .before .before .count .ensures .0, c .before .before .before .before .before .before .before .kind-in .ensures);
+      lists-now = c .before .before .before .copy-members .ensures ∙ rw e;
     }
 
 pub open-turn-spec : {M : Type 1} → statement M
@@ -58,13 +59,13 @@ open-turn-spec =
     (tie.spec
     kind-in-requires
     cast-kind
-    count-requires
+    shared-slice-read-n
+    cast-copy-members
     mul-copy-members
     copy-members-requires
     element-write-w
     width-requires
     element-write-w-2
-    shared-slice-read-w
     element-write-w-3
     same-length
     returns)

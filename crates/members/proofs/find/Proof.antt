@@ -1,15 +1,16 @@
 -- The search meets its contract. Assumes nothing.
 use Prim.Native.Nat.{_-_}
+use native.Mathlib.Omega.{arith}
 use borrow.Author.Needs.{needs}
-use Rattle.tables.proofs.Members.{Seeking, seek-begun, seek-turn, seek-hit, seek-none}
-use Rattle.tables.proofs.sets.find.Statement.{statement}
-use Rattle.tables.proofs.sets.find.Tie as tie
+use Rattle.members.proofs.Seeking.{Seeking, seek-begun, seek-turn, seek-hit, seek-none}
+use Rattle.members.proofs.find.Statement.{statement}
+use Rattle.members.proofs.find.Tie as tie
 
 abbrev Inv-loop : tie.InvT-loop
-Inv-loop sets base n x i₀ i = Seeking sets base n x i
+Inv-loop s base n x i₀ i = Seeking s base n x i
 
 abbrev μ-loop : tie.MeasureT-loop
-μ-loop sets base n x i₀ i = n - i
+μ-loop s base n x i₀ i = n - i
 
 loop-holds : tie.Need-loop-holds Inv-loop μ-loop
 loop-holds c = seek-begun _ _ _ _ (c .pre)
@@ -24,7 +25,7 @@ shared-slice-read-if1 : tie.Need-shared-slice-read-if1 Inv-loop μ-loop
 shared-slice-read-if1 c = search needs
 
 returns : tie.Need-returns Inv-loop μ-loop
-returns c = seek-hit (c .before .before .before .loop .inv) (c .before .before .loop-test .taken) (c .if1 .taken)
+returns c = seek-hit (c .before .before .before .loop .inv) (c .before .before .loop-test .taken) (omega arith)
 
 add-i : tie.Need-add-i Inv-loop μ-loop
 add-i c = search needs

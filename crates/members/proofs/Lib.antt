@@ -1,0 +1,4 @@
+pub mod Ranked
+pub mod Seeking
+pub mod Putting
+pub mod Once
