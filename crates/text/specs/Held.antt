@@ -4,19 +4,15 @@ use Prim.Native.Nat.{ℕ, _+_, _≤_, _<_}
 use mathlib.Core.Path.{_≡_}
 use mathlib.Core.List.{List}
 use lib.ListN.{length}
-use lib.Seq.{paste}
+use Rattle.lists.specs.Part.{place}
 use Rattle.io.specs.Digits.{digits, Fewest}
-
--- the buffer with the word w in place of what stood from `at` on
-abbrev pub laid : List ℕ → ℕ → List ℕ → List ℕ
-laid s at w = paste s at w (length w)
 
 -- What a word does to a buffer s of which so many bytes are held, with the buffer and the number held afterwards:
 -- it follows what is held; or it has no room there, and stands alone when that has gone out;
 -- or it is longer than the whole buffer, and goes out after it.
 pub data Put (s : List ℕ) (held : ℕ) (w s′ : List ℕ) (held′ : ℕ) : Type 0 where
-  behind : held + length w ≤ length s → s′ ≡ laid s held w → held′ ≡ held + length w → Put s held w s′ held′
-  alone : length s < held + length w → length w ≤ length s → s′ ≡ laid s 0 w → held′ ≡ length w → Put s held w s′ held′
+  behind : held + length w ≤ length s → s′ ≡ place held w s → held′ ≡ held + length w → Put s held w s′ held′
+  alone : length s < held + length w → length w ≤ length s → s′ ≡ place 0 w s → held′ ≡ length w → Put s held w s′ held′
   through : length s < held + length w → length s < length w → s′ ≡ s → held′ ≡ 0 → Put s held w s′ held′
 
 -- a number as a word: its decimal digits, no more than it takes

@@ -2,10 +2,9 @@
 // costs no call of the system. The caller keeps the number of bytes held, and flushes what is left at the end.
 //
 // What goes out no contract can say; what stands in the buffer afterwards it does.
-ghost use mathlib.Core.Path.{_≡_};
-ghost use Prim.Native.Nat.{_+_, _≤_, _<_};
+ghost use Prim.Native.Nat.{_+_, _<_};
 ghost use lib.ListN.{length};
-ghost use Rattle.text.specs.Held.{laid, Put, PutDecimal};
+ghost use Rattle.text.specs.Held.{Put, PutDecimal};
 
 // Digits of the largest number.
 const MOST_DIGITS: usize = 20;
@@ -29,7 +28,7 @@ pub fn word(fd: i32, out: &mut [u8], held: usize, w: &[u8]) -> usize
     if out.len() - held < w.len() {
         return afresh(fd, out, held, w);
     }
-    lay(out, held, w);
+    slices::lay(out, held, w);
     held + w.len()
 }
 
@@ -40,7 +39,7 @@ fn afresh(fd: i32, out: &mut [u8], held: usize, w: &[u8]) -> usize
 {
     flush(fd, out, held);
     if w.len() <= out.len() {
-        lay(out, 0, w);
+        slices::lay(out, 0, w);
         return w.len();
     }
     io::write_all(fd, w);
@@ -54,15 +53,4 @@ pub fn decimal(fd: i32, out: &mut [u8], held: usize, n: u64) -> usize
     let mut digits = [0u8; MOST_DIGITS];
     let k = io::decimal(n, &mut digits);
     word(fd, out, held, &digits[..k])
-}
-
-fn lay(out: &mut [u8], at: usize, w: &[u8])
-    requires { ⌜ at + length (now w) ≤ length (now out) ⌝ }
-    ensures { λ _. ⌜ now (out .exit) ≡ laid (now (out .entry)) at (now (w .entry)) ⌝ }
-{
-    let mut i = 0;
-    while i < w.len() {
-        out[at + i] = w[i];
-        i += 1;
-    }
 }

@@ -15,7 +15,7 @@ same-length : tie.Need-same-length
 same-length c = search needs
 
 returns : tie.Need-returns
-returns c = alone (omega arith) (omega arith) (search needs) refl
+returns c = alone (omega arith) (omega arith) (c .before .before .lay .ensures .room (omega arith)) refl
 
 write-all-requires : tie.Need-write-all-requires
 write-all-requires c κs = search needs

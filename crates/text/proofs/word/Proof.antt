@@ -36,7 +36,7 @@ same-length-3 : tie.Need-same-length-3
 same-length-3 c = search needs
 
 returns-3 : tie.Need-returns-3
-returns-3 c = behind (omega arith) (search needs) refl
+returns-3 c = behind (omega arith) (c .before .before .lay .ensures .room (omega arith)) refl
 
 pub word-spec : {M : Type 1} → statement M
 word-spec =
