@@ -9,7 +9,8 @@ use Rattle.ranks.proofs.Finds.{read-up-once, read-down-once, child-rank-once, l
 use Rattle.tables.specs.declared.Built.{Built}
 use Rattle.tables.specs.declared.Built.the-variants as build
 use Rattle.tables.specs.Answer as build-answer
-use Rattle.slices.proofs.Once.{insert-once, clear-once, wipe-once, relabel-once, lay-once}
+use Rattle.zeros.proofs.Once.{clear-once, wipe-once}
+use Rattle.slices.proofs.Once.{insert-once, relabel-once, lay-once}
 use Rattle.members.proofs.Once.{place-of-once, put-once}
 use Rattle.blocks.proofs.Carried.{occurrences-once}
 use Rattle.blocks.proofs.SetMembers.{block-size-once, first-occurrence-once}

@@ -3,6 +3,7 @@ use mathlib.Core.Path.{_≡_}
 use mathlib.Core.Bool.{Bool}
 use mathlib.Core.List.{List}
 use Prim.Native.Nat.{ℕ}
+use Rattle.zeros.specs.Zeros as zeros
 use Rattle.slices.specs.Slices as slices
 use Rattle.members.specs.declared.Turn.{Turn}
 use Rattle.members.specs.Sets as members
@@ -45,12 +46,12 @@ pub record OneOutcome : Type 0 where
   -- the build, with six lent slices
   pub build : (b : List ℕ) (m : tables.Lent) (r s : Built) (m₁ m₂ : tables.Lent) → tables.BuildDue b m (build-answer.said r) m₁ → tables.BuildDue b m (build-answer.said s) m₂
       → (r ≡ s) × (m₁ ≡ m₂)
-  -- work on lent slices: a number carried in, places made zero, one label in place of another, a run of bytes laid over a part
+  -- work on lent slices: a number carried in, one label in place of another, a run of bytes laid over a part; and places made zero
   pub insert : (base n x : ℕ) (s s₁ s₂ : List ℕ) (r₁ r₂ : Bool) → slices.Taken base n x s s₁ r₁ → slices.Taken base n x s s₂ r₂ → (r₁ ≡ r₂) × (s₁ ≡ s₂)
-  pub clear : (n : ℕ) (s s₁ s₂ : List ℕ) → slices.Cleared n s s₁ → slices.Cleared n s s₂ → s₁ ≡ s₂
-  pub wipe : (all : Bool) (s s₁ s₂ : List ℕ) → slices.Wiped all s s₁ → slices.Wiped all s s₂ → s₁ ≡ s₂
   pub relabel : (a b : ℕ) (s s₁ s₂ : List ℕ) → slices.Relabelled a b s s₁ → slices.Relabelled a b s s₂ → s₁ ≡ s₂
   pub lay : (from : ℕ) (s t t₁ t₂ : List ℕ) → slices.Overlaid from s t t₁ → slices.Overlaid from s t t₂ → t₁ ≡ t₂
+  pub clear : (n : ℕ) (s s₁ s₂ : List ℕ) → zeros.Cleared n s s₁ → zeros.Cleared n s s₂ → s₁ ≡ s₂
+  pub wipe : (all : Bool) (s s₁ s₂ : List ℕ) → zeros.Wiped all s s₁ → zeros.Wiped all s s₂ → s₁ ≡ s₂
   -- the sets in lent memory: a place sought, a number put in
   pub place-of : (s : List ℕ) (base n x i j : ℕ) → members.Sought s base n x i → members.Sought s base n x j → i ≡ j
   pub put : (k x : ℕ) (s c s₁ c₁ s₂ c₂ : List ℕ) (r₁ r₂ : Turn) → members.Put k x s c s₁ c₁ r₁ → members.Put k x s c s₂ c₂ r₂ → (r₁ ≡ r₂) × (s₁ ≡ s₂) × (c₁ ≡ c₂)

@@ -7,7 +7,7 @@ use native.Mathlib.Decide.{decLt}
 use native.Mathlib.Omega.{arith}
 use lib.ListN.{length}
 use Rattle.lists.specs.Inserted.{one}
-use Rattle.slices.specs.Slices.{Cleared, Wiped, Taken, Relabelled, Overlaid}
+use Rattle.slices.specs.Slices.{Taken, Relabelled, Overlaid}
 
 one-once : (n : ℕ) (r r′ : Bool) → n + one r ≡ n + one r′ → r ≡ r′
 one-once n true true e = refl
@@ -25,12 +25,6 @@ insert-once base n x s s₁ s₂ r₁ r₂ a b = go (decLt (base + n) (length s)
         let (e, z) = a .none (omega arith) in
         let (e′, z′) = b .none (omega arith) in
         (z ∙ sym z′, e ∙ sym e′)
-
-pub clear-once : (n : ℕ) (s s₁ s₂ : List ℕ) → Cleared n s s₁ → Cleared n s s₂ → s₁ ≡ s₂
-clear-once n s s₁ s₂ a b = a ∙ sym b
-
-pub wipe-once : (all : Bool) (s s₁ s₂ : List ℕ) → Wiped all s s₁ → Wiped all s s₂ → s₁ ≡ s₂
-wipe-once all s s₁ s₂ a b = a ∙ sym b
 
 pub relabel-once : (a b : ℕ) (s s₁ s₂ : List ℕ) → Relabelled a b s s₁ → Relabelled a b s s₂ → s₁ ≡ s₂
 relabel-once a b s s₁ s₂ x y = x ∙ sym y

@@ -1,25 +1,12 @@
 -- What work on lent slices leaves.
 use mathlib.Core.Path.{_≡_}
 use mathlib.Core.Bool.{Bool, false}
-use mathlib.Core.List.{List, _++_}
-use Prim.Native.Nat.{ℕ, _+_, _≤_, _<_, min}
-use lib.ListN.{length, drop, replicate}
-use Rattle.lists.specs.Pick.{pick}
+use mathlib.Core.List.{List}
+use Prim.Native.Nat.{ℕ, _+_, _≤_, _<_}
+use lib.ListN.{length}
 use Rattle.lists.specs.Part.{place}
 use Rattle.lists.specs.Inserted.{Inserted}
 use Rattle.chains.specs.Labels.{relabel}
-
--- the first n places are zero, the rest as they were
-abbrev pub cleared : ℕ → List ℕ → List ℕ
-cleared n s = replicate n 0 ++ drop n s
-
--- THE PROMISE of clearing: the first n places, or all of them where there are fewer
-abbrev pub Cleared : ℕ → List ℕ → List ℕ → Type 0
-Cleared n s s′ = s′ ≡ cleared (min n (length s)) s
-
--- THE PROMISE of wiping: every place is zero, or the slice is as it came
-abbrev pub Wiped : Bool → List ℕ → List ℕ → Type 0
-Wiped all s s′ = s′ ≡ pick all (replicate (length s) 0) s
 
 -- THE PROMISE of an insertion: the n numbers from base on have taken x in, where a place behind them is there; else the slice is as it came
 pub record Taken (base n x : ℕ) (s s′ : List ℕ) (r : Bool) : Type 0 where

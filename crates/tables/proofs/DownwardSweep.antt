@@ -14,7 +14,7 @@ use Rattle.book.specs.Format.{kinds, prods, start, grammar}
 use Rattle.bookcheck.proofs.Accepted.{Accepted}
 use Rattle.members.specs.Sets.{Has}
 use Rattle.tables.specs.Memory.{Fine, Kept, Turned}
-use Rattle.slices.specs.Slices.{cleared}
+use Rattle.zeros.specs.Zeros.{cleared}
 use Rattle.tables.specs.Visit.{Gathered, OldOr}
 use Rattle.tables.specs.Sweep.{Since, total, Attended, Swept, Exact, Outcome}
 use Rattle.tables.specs.Downward.{down-step, down-into, down-watch, DownServed, DownMarks, DownSwept, DownClosed, Seeded}

@@ -14,9 +14,9 @@ use Rattle.members.specs.Sets.{members, Has, member, Placed}
 use Rattle.tables.specs.Sets.{Over, Holds}
 use Rattle.tables.specs.Promise.{Counted}
 use Rattle.tables.specs.Memory.{Fine, Kept}
-use Rattle.slices.specs.Slices.{cleared}
+use Rattle.zeros.specs.Zeros.{cleared}
 use Rattle.members.proofs.Ranked.{members-long}
-use Rattle.slices.proofs.Cleared.{cleared-long, cleared-at, cleared-past}
+use Rattle.zeros.proofs.Cleared.{cleared-long, cleared-at, cleared-past}
 
 -- ── from cleared memory to the sets ──
 module _ (n : ℕ) (s₀ c₀ : List ℕ) (there : n * max-members ≤ length s₀) (here : n ≤ length c₀) where

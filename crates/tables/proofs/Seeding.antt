@@ -14,10 +14,10 @@ use Rattle.lists.proofs.Room.{room-falls}
 use Rattle.chains.specs.Limits.{max-members}
 use Rattle.members.specs.Sets.{members, Has, member}
 use Rattle.tables.specs.Memory.{Fine, Kept, room}
-use Rattle.slices.specs.Slices.{cleared}
+use Rattle.zeros.specs.Zeros.{cleared}
 use Rattle.tables.specs.Downward.{Seeded}
 use Rattle.members.proofs.Ranked.{members-long}
-use Rattle.slices.proofs.Cleared.{cleared-long, cleared-at}
+use Rattle.zeros.proofs.Cleared.{cleared-long, cleared-at}
 use Rattle.tables.proofs.Memory.{fine-placed, every}
 
 module _ {n k : ℕ} {P : ℕ → ℕ → Type 0} (f₀ d₀ : List ℕ) {s c f d : List ℕ} (there : n * max-members ≤ length f₀) (here : n ≤ length d₀) (low : k < n) (g : Fine n P s c)

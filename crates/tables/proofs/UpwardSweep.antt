@@ -16,7 +16,7 @@ use Rattle.book.specs.Reading.{kid-at}
 use Rattle.bookcheck.proofs.Accepted.{Accepted, arity-read, kid-read}
 use Rattle.members.specs.Sets.{Has}
 use Rattle.tables.specs.Memory.{Fine, Kept, Turned}
-use Rattle.slices.specs.Slices.{cleared}
+use Rattle.zeros.specs.Zeros.{cleared}
 use Rattle.tables.specs.Visit.{Gathered, OldOr}
 use Rattle.tables.specs.Sweep.{total, Attended, Swept, Outcome}
 use Rattle.tables.specs.Upward.{up-step, up-into, up-watch, UpServed, UpMarks, UpSwept, UpClosed}

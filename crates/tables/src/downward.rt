@@ -277,8 +277,8 @@ pub fn downward(
         (now (feasible .entry)) (now (tally .entry)) (now (feasible .exit)) (now (tally .exit)) r ⌝ }
 {
     let n = book::kinds(book) as usize;
-    slices::clear32(feasible, n * MAX_MEMBERS);
-    slices::clear8(tally, n);
+    zeros::clear32(feasible, n * MAX_MEMBERS);
+    zeros::clear8(tally, n);
     seed(book, plausible, counts, feasible, tally);
     close_down(book, places, plausible, counts, feasible, tally)
 }

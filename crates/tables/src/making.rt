@@ -131,6 +131,6 @@ pub fn run(
         (said r) (lent (now (plausible .exit)) (now (counts .exit)) (now (feasible .exit)) (now (tally .exit)) (now (up .exit)) (now (down .exit))) ⌝ }
 {
     let built = work(book, plausible, counts, feasible, tally, up, down);
-    slices::wipe(refuses(built), plausible, counts, feasible, tally, up, down);
+    zeros::wipe(refuses(built), plausible, counts, feasible, tally, up, down);
     built
 }

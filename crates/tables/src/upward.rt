@@ -152,7 +152,7 @@ pub fn upward(book: &[u8], places: &[usize], sets: &mut [u32], counts: &mut [u8]
         (now (sets .entry)) (now (counts .entry)) (now (sets .exit)) (now (counts .exit)) r ⌝ }
 {
     let n = book::kinds(book) as usize;
-    slices::clear32(sets, n * MAX_MEMBERS);
-    slices::clear8(counts, n);
+    zeros::clear32(sets, n * MAX_MEMBERS);
+    zeros::clear8(counts, n);
     close_up(book, places, sets, counts)
 }

@@ -4,8 +4,8 @@ use Prim.Native.Nat.{ℕ, _*_}
 use Rattle.chains.specs.Limits.{max-members}
 use Rattle.book.specs.Format.{kinds}
 use Rattle.bookcheck.proofs.Accepted.{told-kinds, told-start}
-use Rattle.slices.specs.Slices.{cleared}
-use Rattle.slices.proofs.Cleared.{clears}
+use Rattle.zeros.specs.Zeros.{cleared}
+use Rattle.zeros.proofs.Cleared.{clears}
 use Rattle.tables.proofs.Memory.{fine-placed}
 use Rattle.tables.proofs.DownwardSweep.{down-begun, down-outcome}
 use native.Mathlib.Omega.{arith}

@@ -5,8 +5,8 @@ use Rattle.chains.specs.Limits.{max-members}
 use Rattle.chains.specs.Plausible.{Plausible}
 use Rattle.book.specs.Format.{kinds, grammar}
 use Rattle.bookcheck.proofs.Accepted.{told-kinds}
-use Rattle.slices.specs.Slices.{cleared}
-use Rattle.slices.proofs.Cleared.{clears}
+use Rattle.zeros.specs.Zeros.{cleared}
+use Rattle.zeros.proofs.Cleared.{clears}
 use Rattle.tables.proofs.Holds.{cleared-fine}
 use Rattle.tables.proofs.UpwardSweep.{up-outcome}
 use native.Mathlib.Omega.{arith}

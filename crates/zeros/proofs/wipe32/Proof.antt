@@ -1,9 +1,9 @@
 -- A whole slice cleared, or nothing of it: the contract is met. Assumes nothing.
 use mathlib.Core.Path.{_∙_}
 use borrow.Author.Needs.{needs}
-use Rattle.slices.proofs.Cleared.{extent-fits, cleared-all}
-use Rattle.slices.proofs.wipe32.Statement.{statement}
-use Rattle.slices.proofs.wipe32.Tie as tie
+use Rattle.zeros.proofs.Cleared.{extent-fits, cleared-all}
+use Rattle.zeros.proofs.wipe32.Statement.{statement}
+use Rattle.zeros.proofs.wipe32.Tie as tie
 
 extent-requires : tie.Need-extent-requires
 extent-requires c κs = search needs

@@ -7,7 +7,7 @@ use native.Mathlib.Omega.{arith}
 use lib.ListN.{length, getD, drop, replicate, length-append, length-drop, length-replicate, getD-replicate, List·getD-append}
 use lib.Seq.{getD-append-add, getD-drop, drop-length}
 use Rattle.lists.specs.Pick.{pick}
-use Rattle.slices.specs.Slices.{cleared, Cleared}
+use Rattle.zeros.specs.Zeros.{cleared, Cleared}
 
 module _ (n : ℕ) (s : List ℕ) where
   pub cleared-long : n ≤ length s → length (cleared n s) ≡ length s

@@ -1,7 +1,7 @@
 -- All six slices are wiped, one by one, or none.
 use borrow.Author.Needs.{needs}
-use Rattle.slices.proofs.wipe.Statement.{statement}
-use Rattle.slices.proofs.wipe.Tie as tie
+use Rattle.zeros.proofs.wipe.Statement.{statement}
+use Rattle.zeros.proofs.wipe.Tie as tie
 
 wipe32-requires : tie.Need-wipe32-requires
 wipe32-requires c κs = search needs
