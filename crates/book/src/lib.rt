@@ -5,7 +5,7 @@
 pub mod limits;
 
 ghost use mathlib.Core.Path.{_≡_};
-ghost use Prim.Native.Nat.{_+_, _*_, _/_, _%_, _<_, _≤_, min};
+ghost use Prim.Native.Nat.{_+_, _*_, _<_, _≤_, min};
 ghost use lib.ListN.{length, getD};
 ghost use Rattle.book.specs.Format.{arity-at, left-at, pairs-at, next-at, entry};
 ghost use Rattle.chains.specs.Limits.{max-prods};
@@ -197,18 +197,4 @@ pub fn index(book: &[u8]) -> [usize; limits::MAX_PRODUCTIONS as usize]
         p += 1;
     }
     places
-}
-
-// An occurrence's slot: its upper five bits.
-pub fn slot(o: u8) -> u8
-    ensures { λ r. ⌜ r ≡ o / 8 ⌝ }
-{
-    o >> 3
-}
-
-// An occurrence's setting: its lower three bits.
-pub fn setting(o: u8) -> u8
-    ensures { λ r. ⌜ r ≡ o % 8 ⌝ }
-{
-    o & 7
 }

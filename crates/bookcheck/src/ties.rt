@@ -10,10 +10,10 @@ use book::from;
 use book::kind_in;
 use book::mask;
 use book::pairs;
-use book::setting;
 use book::settings;
-use book::slot;
 use book::to;
+use occurrence::setting;
+use occurrence::slot;
 
 // Whether the entry at `at` has an occurrence `o`.
 fn exists(book: &[u8], at: usize, o: u8) -> bool

@@ -198,9 +198,9 @@ fn entry_readings(book: &[u8]) {
     );
     reading(
         b"slot and setting of 11, slot of 255",
-        book::slot(11) as u64,
-        book::setting(11) as u64,
-        book::slot(255) as u64,
+        occurrence::slot(11) as u64,
+        occurrence::setting(11) as u64,
+        occurrence::slot(255) as u64,
     );
 }
 

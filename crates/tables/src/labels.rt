@@ -55,7 +55,7 @@ pub fn width(book: &[u8], at: usize, slot: u8) -> u8
 fn own(book: &[u8], at: usize, o: u8) -> u8
     ensures { λ r. ⌜ r ≡ own (now (book .entry)) at o ⌝ }
 {
-    if book::setting(o) < width(book, at, book::slot(o)) {
+    if occurrence::setting(o) < width(book, at, occurrence::slot(o)) {
         o
     } else {
         NONE

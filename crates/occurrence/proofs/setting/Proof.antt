@@ -1,6 +1,6 @@
 use lib.Bits.{and-mask}
-use Rattle.book.proofs.setting.Statement.{statement}
-use Rattle.book.proofs.setting.Tie as tie
+use Rattle.occurrence.proofs.setting.Statement.{statement}
+use Rattle.occurrence.proofs.setting.Tie as tie
 
 returns : tie.Need-returns
 returns c = and-mask _ 3
