@@ -30,9 +30,9 @@ module _ {b : List ℕ} {m : Lent} (ready : Ready b m) where
   pub opened : {places : List ℕ} → Index b places → Opened b places
   opened i = record { book = ready .book; index = i }
 
-  pub worked-plausible : {s c : List ℕ} {r : Bool} (m′ : Lent) (a : Said) → Outcome (kinds b) (Plausible (grammar b)) (m .plausible) (m .plausible-counts) s c r
-      → r ≡ false → a ≡ refused 10 0 → Worked b m a m′
-  worked-plausible m′ a o e q = rw q (record { due = (refuse-plausible ready (o .over e), omega arith) })
+  pub worked-plausible : {s c : List ℕ} {r : Bool} (m′ : Lent) → Outcome (kinds b) (Plausible (grammar b)) (m .plausible) (m .plausible-counts) s c r
+      → r ≡ false → Worked b m (refused 10 0) m′
+  worked-plausible m′ o e = record { due = (refuse-plausible ready (o .over e), omega arith) }
 
   module _ {s c : List ℕ} {r : Bool} (o : Outcome (kinds b) (Plausible (grammar b)) (m .plausible) (m .plausible-counts) s c r) (e : r ≡ true) where
     pub plausible-held : Exact (kinds b) (Plausible (grammar b)) s c
@@ -41,9 +41,9 @@ module _ {b : List ℕ} {m : Lent} (ready : Ready b m) where
       whole = λ k x h. o .holds e .exactly k x h .1;
     }
 
-    pub worked-feasible : {f d : List ℕ} {q : Bool} (m′ : Lent) (a : Said) → Outcome (kinds b) (Feasible (grammar b)) (m .feasible) (m .feasible-counts) f d q
-        → q ≡ false → a ≡ refused 11 0 → Worked b m a m′
-    worked-feasible m′ a p z y = rw y (record { due = (refuse-feasible ready (o .holds e) (p .over z), omega arith) })
+    pub worked-feasible : {f d : List ℕ} {q : Bool} (m′ : Lent) → Outcome (kinds b) (Feasible (grammar b)) (m .feasible) (m .feasible-counts) f d q
+        → q ≡ false → Worked b m (refused 11 0) m′
+    worked-feasible m′ p z = record { due = (refuse-feasible ready (o .holds e) (p .over z), omega arith) }
 
     module _ {f d : List ℕ} {q : Bool} (p : Outcome (kinds b) (Feasible (grammar b)) (m .feasible) (m .feasible-counts) f d q) (z : q ≡ true) where
       pub settled : Settled b s c f d
@@ -60,12 +60,11 @@ module _ {b : List ℕ} {m : Lent} (ready : Ready b m) where
 
 -- ── the tables ──
 module _ (G : Grammar) (s c f d up down up′ down′ : List ℕ) where
-  pub tabled-up : (a : Said) → length up < up-entries G c → a ≡ refused 12 0 → Tabled G s c f d up down a up′ down′
-  tabled-up a l e = rw e (record { due = up-exceeds l })
+  pub tabled-up : length up < up-entries G c → Tabled G s c f d up down (refused 12 0) up′ down′
+  tabled-up l = record { due = up-exceeds l }
 
-  pub tabled-down : (a : Said) → up-entries G c ≤ length up → length down < down-entries G c d * entry-bytes → a ≡ refused 13 0
-      → Tabled G s c f d up down a up′ down′
-  tabled-down a fits l e = rw e (record { due = down-exceeds fits l })
+  pub tabled-down : up-entries G c ≤ length up → length down < down-entries G c d * entry-bytes → Tabled G s c f d up down (refused 13 0) up′ down′
+  tabled-down fits l = record { due = down-exceeds fits l }
 
   pub tabled : (u w : ℕ) → u ≡ up-entries G c → w ≡ down-entries G c d → up-entries G c ≤ length up → down-entries G c d * entry-bytes ≤ length down
       → UpTable G s c up′ × Written (up-entries G c) up up′ → DownTable G s c f d down′ × Written (down-entries G c d * entry-bytes) down down′

@@ -107,17 +107,17 @@ module _ (b : List ℕ) (m : Lent) (r : Checked) (due : rows.BookDue b (checked.
   pub built-of-book : (n p : ℕ) → r ≡ checks.Refused n p → BuildDue b m (said (Refused n p)) m
   built-of-book n p e = refused-book b m n p (rw e at due)
 
-  -- the kinds k, measured against the lent memory
-  module _ (x y : ℕ) (e : r ≡ checks.Accepted x y) (k : ℕ) (same : k ≡ x) (short : Bool)
-      (size : Measured k (length (m .plausible)) (length (m .plausible-counts)) (length (m .feasible)) (length (m .feasible-counts)) short) where
+  -- the kinds, measured against the lent memory
+  module _ (x y : ℕ) (e : r ≡ checks.Accepted x y) (short : Bool)
+      (size : Measured x (length (m .plausible)) (length (m .plausible-counts)) (length (m .feasible)) (length (m .feasible-counts)) short) where
     accepted-due : rows.BookDue b (accepted (x ∷ y ∷ []))
     accepted-due = rw e at due
 
     sized : Measured (kinds b) (length (m .plausible)) (length (m .plausible-counts)) (length (m .feasible)) (length (m .feasible-counts)) short
-    sized = rw (same ∙ kinds-told accepted-due) at size
+    sized = rw (kinds-told accepted-due) at size
 
-    pub built-short : (a : Said) → short ≡ true → a ≡ refused 9 0 → BuildDue b m a m
-    built-short a h q = rw q (refused-room accepted-due m (sized .short h))
+    pub built-short : short ≡ true → BuildDue b m (refused 9 0) m
+    built-short h = refused-room accepted-due m (sized .short h)
 
     pub built-ready : short ≡ false → Ready b m
     built-ready h = ready-book accepted-due m (sized .roomy h)

@@ -33,24 +33,19 @@ pub none-chosen : {v : Shape} {c : List ℕ} {t : ℕ} → t ≡ v .arity → Mu
 unfolding choices
 none-chosen {v} {c} {t} e = record { within = omega arith; held = sym (ap (choices c) (kinds-none v (suc t) (omega arith))) }
 
--- a slot's kind has a count
-pub count-there : {v : Shape} {c : List ℕ} → Countable v c → (t : ℕ) → t ≤ v .arity → {k : ℕ} → k ≡ kind-of v t → k < length c
-count-there h t l e = rw e (h .here t l)
-
 module _ {v : Shape} {c : List ℕ} {x t : ℕ} (h : Multiplying v c x t) where
-  -- the kind k of slot t has n members
-  module _ {k n : ℕ} (e : k ≡ kind-of v t) (e′ : n ≡ getD c k 0) where
-    one-more : n * x ≡ choices c (kinds-from v t)
-    unfolding choices
-    one-more = ap₂ _*_ (e′ ∙ ap (λ (k : ℕ). getD c k 0) e) (h .held) ∙ sym (ap (choices c) (kinds-step v t (h .within)))
+  -- slot t's kind has so many members
+  one-more : getD c (kind-of v t) 0 * x ≡ choices c (kinds-from v t)
+  unfolding choices
+  one-more = ap (λ (y : ℕ). getD c (kind-of v t) 0 * y) (h .held) ∙ sym (ap (choices c) (kinds-step v t (h .within)))
 
-    pub choose-fits : Countable v c → 0 < t → n * x ≤ max-members ^ max-kids
-    choose-fits few l = rw one-more (few-choices few t l)
+  pub choose-fits : Countable v c → 0 < t → getD c (kind-of v t) 0 * x ≤ max-members ^ max-kids
+  choose-fits few l = rw one-more (few-choices few t l)
 
-    pub choose-turn : 0 < t → Multiplying v c (n * x) (t - 1)
-    choose-turn l =
-        let s : suc (t - 1) ≡ t = omega arith in
-        record { within = omega (arith, h .within); held = one-more ∙ ap (λ (i : ℕ). choices c (kinds-from v i)) (sym s) }
+  pub choose-turn : 0 < t → Multiplying v c (getD c (kind-of v t) 0 * x) (t - 1)
+  choose-turn l =
+      let s : suc (t - 1) ≡ t = omega arith in
+      record { within = omega (arith, h .within); held = one-more ∙ ap (λ (i : ℕ). choices c (kinds-from v i)) (sym s) }
 
   pub choose-done : Countable v c → t ≤ 0 → (x ≡ choices c (kinds-from v 1)) × (x ≤ max-members ^ max-kids)
   choose-done few l =
@@ -59,14 +54,11 @@ module _ {v : Shape} {c : List ℕ} {x t : ℕ} (h : Multiplying v c x t) where
       (q, rw q (few-choices few 1 (omega arith)))
 
 -- and the feasible groupings of its left kind, of which each has all of them
-pub choose-down : {v : Shape} (c : List ℕ) {d : List ℕ} {k n x : ℕ} → Countable v d → k ≡ kind-of v 0 → n ≡ getD d k 0
-    → (x ≡ choices c (kinds-from v 1)) × (x ≤ max-members ^ max-kids)
-    → (n * x ≡ getD d (kind-of v 0) 0 * choices c (kinds-from v 1)) × (n * x ≤ max-members ^ (1 + max-kids))
-choose-down {v} c {d} {k} {n} {x} h e e′ (q, l) =
-    let m : n ≡ getD d (kind-of v 0) 0 = e′ ∙ ap (λ (k : ℕ). getD d k 0) e in
-    let f : n ≤ max-members = rw m (h .few 0 (omega arith)) in
-    let w : n * x ≤ max-members * max-members ^ max-kids = mul-le-mul f l in
-    (ap₂ _*_ m q, omega arith)
+pub choose-down : {v : Shape} (c : List ℕ) {d : List ℕ} {x : ℕ} → Countable v d → (x ≡ choices c (kinds-from v 1)) × (x ≤ max-members ^ max-kids)
+    → (getD d (kind-of v 0) 0 * x ≡ getD d (kind-of v 0) 0 * choices c (kinds-from v 1)) × (getD d (kind-of v 0) 0 * x ≤ max-members ^ (1 + max-kids))
+choose-down {v} c {d} {x} h (q, l) =
+    let w : getD d (kind-of v 0) 0 * x ≤ max-members * max-members ^ max-kids = mul-le-mul (h .few 0 (omega arith)) l in
+    (ap (λ (y : ℕ). getD d (kind-of v 0) 0 * y) q, omega arith)
 
 -- ── all productions ──
 -- x is the number of entries of the first p of n productions, which are the book's; start counts them

@@ -124,6 +124,6 @@ module _ {W : ℕ → List ℕ → Type 0} {l : List ℕ} (h : Stored W l) (j : 
       go k i b f (no d) = there-has k i b d f
 
 -- ── how a state is put ──
-pub remember-put : (l s : List ℕ) (j : ℕ) {l′ : List ℕ} {n a : ℕ} → n ≡ counter l j → l′ ≡ place (j * level-bytes + 1 + n % places * labels) s l → a ≡ advanced (counter l j)
+pub remember-put : (l s : List ℕ) (j : ℕ) {l′ : List ℕ} {a : ℕ} → l′ ≡ place (j * level-bytes + 1 + counter l j % places * labels) s l → a ≡ advanced (counter l j)
     → set l′ (j * level-bytes) a ≡ remembered l j s
-remember-put l s j e f g = ap₂ (λ x y. set x (j * level-bytes) y) (f ∙ ap (λ k. place (j * level-bytes + 1 + k % places * labels) s l) e) g
+remember-put l s j f g = ap₂ (λ x y. set x (j * level-bytes) y) f g

@@ -23,9 +23,6 @@ use super::visit::MARKS;
 use super::visit::looking_at;
 use super::visit::open_turn;
 use super::visit::visit;
-use super::widen::narrow;
-use super::widen::wide;
-use super::widen::word;
 use members::Turn;
 
 // The slot of turn j in a visit for the child in slot t, which is tied last.
@@ -137,13 +134,13 @@ fn serve_down(
         (DownServed (now (book .entry)) (now (plausible .entry)) (now (counts .entry)) p (now (feasible .entry)) (now (tally .entry)) (now (feasible .exit)) (now (tally .exit)))
         (now (feasible .entry)) (now (tally .entry)) (now (feasible .exit)) (now (tally .exit)) r) ⌝ }
 {
-    let n = wide(book::arity(book, at));
+    let n = book::arity(book, at) as usize;
     let mut turn = Turn::Still;
     let mut j = 0;
     while j < n {
         turn = joined(
             turn,
-            visit_down(book, at, narrow(j + 1), plausible, counts, feasible, tally),
+            visit_down(book, at, (j + 1) as u8, plausible, counts, feasible, tally),
         );
         j = beyond(turn, j, n);
     }
@@ -170,7 +167,7 @@ fn attend_down(
         (DownMarks (now (book .entry)) (now (plausible .entry)) (now (counts .entry)) (now (marks .exit)))
         (now (feasible .entry)) (now (tally .entry)) (now (feasible .exit)) (now (tally .exit)) r ⌝ }
 {
-    let mark = word(tally[book::left(book, at) as usize]) + 1;
+    let mark = tally[book::left(book, at) as usize] as u16 + 1;
     if marks[p] == mark {
         return Turn::Still;
     }

@@ -12,7 +12,6 @@ mod totals;
 mod turns;
 mod upward;
 mod visit;
-mod widen;
 
 ghost use Rattle.tables.specs.Promise.{BuildDue};
 ghost use Rattle.tables.specs.Answer.{said, lent};
@@ -42,15 +41,28 @@ pub fn build(
         bookcheck::Checked::Refused { number, place } => Built::Refused { number, place },
         bookcheck::Checked::Accepted { kinds, productions } => {
             if making::too_short(
-                widen::span(kinds),
+                kinds as usize,
                 plausible.len(),
                 counts.len(),
                 feasible.len(),
                 tally.len(),
             ) {
-                return making::refused(9);
+                return Built::Refused {
+                    number: 9,
+                    place: 0,
+                };
             }
-            making::run(book, plausible, counts, feasible, tally, up, down)
+            let built = making::work(book, plausible, counts, feasible, tally, up, down);
+            zeros::wipe(
+                making::refuses(built),
+                plausible,
+                counts,
+                feasible,
+                tally,
+                up,
+                down,
+            );
+            built
         }
     }
 }

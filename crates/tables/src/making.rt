@@ -1,10 +1,9 @@
-// The build of an accepted book: the two passes, then the two tables; what a refusal leaves is wiped.
+// The build of an accepted book: the two passes, then the two tables.
 ghost use mathlib.Core.Path.{_≡_};
 ghost use Prim.Native.Nat.{_*_, _<_, _≤_};
 ghost use lib.ListN.{length};
 ghost use Rattle.lists.specs.Refusals.{refused};
 ghost use Rattle.book.specs.Format.{grammar};
-ghost use Rattle.tables.specs.Promise.{BuildDue};
 ghost use Rattle.tables.specs.Answer.{said, lent};
 ghost use Rattle.tables.specs.Shape.{Opened};
 ghost use Rattle.tables.specs.Making.{Measured, Ready, Settled, Tabled, Worked, refuses};
@@ -16,17 +15,9 @@ use super::sets::MAX_MEMBERS;
 use super::totals::total_down;
 use super::totals::total_up;
 use super::upward::upward;
-use super::widen::long;
 
 // Bytes of a down entry.
 const ENTRY: u64 = ranks::ENTRY as u64;
-
-// A refusal that names no place.
-pub fn refused(number: u8) -> Built
-    ensures { λ r. ⌜ said r ≡ refused number 0 ⌝ }
-{
-    Built::Refused { number, place: 0 }
-}
 
 // Whether some set slice has too few places for n kinds, or some count slice.
 pub fn too_short(n: usize, plausible: usize, counts: usize, feasible: usize, tally: usize) -> bool
@@ -64,12 +55,18 @@ fn write_tables(
         (now (up .entry)) (now (down .entry)) (said r) (now (up .exit)) (now (down .exit)) ⌝ }
 {
     let ups = total_up(book, places, counts);
-    if long(up.len()) < ups {
-        return refused(12);
+    if (up.len() as u64) < ups {
+        return Built::Refused {
+            number: 12,
+            place: 0,
+        };
     }
     let downs = total_down(book, places, counts, tally);
-    if long(down.len()) / ENTRY < downs {
-        return refused(13);
+    if (down.len() as u64) / ENTRY < downs {
+        return Built::Refused {
+            number: 13,
+            place: 0,
+        };
     }
     fill_up(book, places, plausible, counts, up);
     fill_down(book, places, plausible, counts, feasible, tally, down);
@@ -80,7 +77,7 @@ fn write_tables(
 }
 
 // The two passes, then the tables. What a refusal leaves in the memory is not said.
-fn work(
+pub fn work(
     book: &[u8],
     plausible: &mut [u32],
     counts: &mut [u8],
@@ -95,16 +92,22 @@ fn work(
 {
     let places = book::index(book);
     if !upward(book, &places, plausible, counts) {
-        return refused(10);
+        return Built::Refused {
+            number: 10,
+            place: 0,
+        };
     }
     if !downward(book, &places, plausible, counts, feasible, tally) {
-        return refused(11);
+        return Built::Refused {
+            number: 11,
+            place: 0,
+        };
     }
     write_tables(book, &places, plausible, counts, feasible, tally, up, down)
 }
 
 // Whether an answer is a refusal.
-fn refuses(built: Built) -> bool
+pub fn refuses(built: Built) -> bool
     ensures { λ r. ⌜ r ≡ refuses (said built) ⌝ }
 {
     match built {
@@ -114,23 +117,4 @@ fn refuses(built: Built) -> bool
             place: _,
         } => true,
     }
-}
-
-// The same, with all memory wiped after a refusal.
-pub fn run(
-    book: &[u8],
-    plausible: &mut [u32],
-    counts: &mut [u8],
-    feasible: &mut [u32],
-    tally: &mut [u8],
-    up: &mut [u8],
-    down: &mut [u8],
-) -> Built
-    requires { ⌜ Ready (now book) (lent (now plausible) (now counts) (now feasible) (now tally) (now up) (now down)) ⌝ }
-    ensures { λ r. ⌜ BuildDue (now (book .entry)) (lent (now (plausible .entry)) (now (counts .entry)) (now (feasible .entry)) (now (tally .entry)) (now (up .entry)) (now (down .entry)))
-        (said r) (lent (now (plausible .exit)) (now (counts .exit)) (now (feasible .exit)) (now (tally .exit)) (now (up .exit)) (now (down .exit))) ⌝ }
-{
-    let built = work(book, plausible, counts, feasible, tally, up, down);
-    zeros::wipe(refuses(built), plausible, counts, feasible, tally, up, down);
-    built
 }

@@ -8,7 +8,6 @@ ghost use Rattle.ranks.specs.Entries.{labels};
 ghost use Rattle.tables.specs.Seen.{places, levels, seen-bytes, filled, advanced, Found, remembered};
 use super::labels::LABELS;
 use super::labels::same_state;
-use super::widen::wide;
 
 // States for each number of turns left.
 const PLACES: usize = 64;
@@ -24,7 +23,7 @@ pub const SEEN_BYTES: usize = LEVELS * LEVEL_BYTES;
 fn filled(counter: u8) -> usize
     ensures { λ r. ⌜ r ≡ min counter places ⌝ }
 {
-    let n = wide(counter);
+    let n = counter as usize;
     if PLACES < n { PLACES } else { n }
 }
 
@@ -59,6 +58,6 @@ pub fn remember(seen: &mut [u8], level: usize, s: &[u8; LABELS])
 {
     let base = level * LEVEL_BYTES;
     let counter = seen[base];
-    slices::lay(seen, base + 1 + wide(counter) % PLACES * LABELS, s);
+    slices::lay(seen, base + 1 + counter as usize % PLACES * LABELS, s);
     seen[base] = advanced(counter);
 }

@@ -9,15 +9,6 @@ ghost use Rattle.tables.specs.Promise.{up-entries, down-entries};
 ghost use Rattle.tables.specs.Shape.{Opened, Small, Countable, kinds-from};
 use super::shape::Shape;
 use super::shape::shape_of;
-use super::widen::far;
-
-// The number of members of a kind.
-fn count(counts: &[u8], kind: usize) -> u64
-    requires { ⌜ kind < length (now counts) ⌝ }
-    ensures { λ r. ⌜ (r ≡ getD (now (counts .entry)) kind 0) × (r < 256) ⌝ }
-{
-    far(counts[kind])
-}
 
 // The number of choices of a member for each child.
 fn choices(v: Shape, counts: &[u8]) -> u64
@@ -27,7 +18,7 @@ fn choices(v: Shape, counts: &[u8]) -> u64
     let mut product: u64 = 1;
     let mut t = v.arity as usize;
     while 0 < t {
-        product = count(counts, v.kinds[t] as usize) * product;
+        product = counts[v.kinds[t] as usize] as u64 * product;
         t -= 1;
     }
     product
@@ -57,7 +48,7 @@ fn choices_down(v: Shape, counts: &[u8], feasible: &[u8]) -> u64
     requires { ⌜ Countable v (now counts) × Countable v (now feasible) ⌝ }
     ensures { λ r. ⌜ (r ≡ getD (now (feasible .entry)) (getD (v .kinds) 0 0) 0 * choices (now (counts .entry)) (kinds-from v 1)) × (r ≤ max-members ^ (1 + max-kids)) ⌝ }
 {
-    count(feasible, v.kinds[0] as usize) * choices(v, counts)
+    feasible[v.kinds[0] as usize] as u64 * choices(v, counts)
 }
 
 // The down entries of all productions.

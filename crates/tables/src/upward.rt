@@ -21,7 +21,6 @@ use super::visit::MARKS;
 use super::visit::looking_at;
 use super::visit::open_turn;
 use super::visit::visit;
-use super::widen::word;
 use members::Turn;
 
 // The children in turn, from the first; the results are seen on the left kind.
@@ -69,7 +68,7 @@ fn watched_up(book: &[u8], at: usize, counts: &[u8]) -> u16
     let mut sum: u16 = 1;
     let mut i: u8 = 0;
     while i < n {
-        sum += word(counts[book::kid(book, at, i) as usize]);
+        sum += counts[book::kid(book, at, i) as usize] as u16;
         i += 1;
     }
     sum

@@ -1,5 +1,8 @@
--- The build: the book is checked, its sets are measured, and the rest is run.
-use Rattle.tables.proofs.Building.{built-of-book, built-short, built-ready}
+-- The build: the book is checked, its sets are measured, and the work is done; after a refusal of it all is wiped.
+use mathlib.Core.Path.{_∙_}
+use Rattle.tables.specs.Answer.{lent}
+use Rattle.tables.proofs.Building.{built-of-book, built-short, built-ready, wiped-same}
+use Rattle.tables.proofs.BuildSteps.{left, built}
 use borrow.Author.Needs.{needs}
 use Rattle.tables.proofs.build.Statement.{statement}
 use Rattle.tables.proofs.build.Tie as tie
@@ -13,47 +16,55 @@ enum-known-number c = search needs
 enum-known-kinds : tie.Need-enum-known-kinds
 enum-known-kinds c = search needs
 
-span-requires : tie.Need-span-requires
-span-requires c κs = search needs
+cast-too-short : tie.Need-cast-too-short
+cast-too-short c = search needs
 
 too-short-requires : tie.Need-too-short-requires
 too-short-requires c κs = search needs
 
-refused-requires : tie.Need-refused-requires
-refused-requires c κs = search needs
-
 returns : tie.Need-returns
-returns c =
-    built-short _ _ _ (c .before .before .before .before .before .before .before .check-book .ensures) _ _ (c .before .before .before .before .before .kinds .given .1) _ ((c .before .before .before .span .ensures) .0) _ (c .before .before .too-short .ensures) _ (c .before .if1 .taken) (c .refused .ensures)
+returns c = built-short _ _ _ (c .before .before .before .before .before .check-book .ensures) _ _ (c .before .before .before .kinds .given .1) _ (c .before .too-short .ensures) (c .if1 .taken)
 
-run-requires : tie.Need-run-requires
-run-requires c κs =
-    built-ready _ _ _ (c .before .before .before .before .before .before .before .before .before .before .before .before .check-book .ensures) _ _ (c .before .before .before .before .before .before .before .before .before .before .kinds .given .1) _ ((c .before .before .before .before .before .before .before .before .span .ensures) .0) _ (c .before .before .before .before .before .before .before .too-short .ensures) (c .before .before .before .before .before .before .if1 .left)
+work-requires : tie.Need-work-requires
+work-requires c κs = built-ready _ _ _ (c .before .before .before .before .before .before .before .before .before .before .before .check-book .ensures) _ _ (c .before .before .before .before .before .before .before .before .before .kinds .given .1) _ (c .before .before .before .before .before .before .before .too-short .ensures) (c .before .before .before .before .before .before .if1 .left)
+
+refuses-requires : tie.Need-refuses-requires
+refuses-requires c κs = search needs
+
+wipe-requires : tie.Need-wipe-requires
+wipe-requires c κs = search needs
 
 returns-2 : tie.Need-returns-2
-returns-2 c =
-    built-of-book _ _ _ (c .before .before .before .check-book .ensures) _ _ (c .before .number .given .1)
+returns-2 c = built-of-book _ _ _ (c .before .before .before .check-book .ensures) _ _ (c .before .number .given .1)
 
 same-length : tie.Need-same-length
-same-length c = c .before .before .before .before .before .before .before .before .before .before .before .before .run .kept .1 .0
+same-length c = c .before .before .before .before .before .before .before .before .before .before .before .before .wipe .kept .1 .0 ∙ c .before .before .before .before .before .before .before .before .before .before .before .before .before .before .before .before .before .before .before .before .before .before .before .before .before .before .before .before .before .before .before .before .work .kept .1 .0
 
 same-length-2 : tie.Need-same-length-2
-same-length-2 c = c .before .before .before .before .before .before .before .before .before .before .before .before .run .kept .1 .1 .0
+same-length-2 c = c .before .before .before .before .before .before .before .before .before .before .before .before .wipe .kept .1 .1 .0 ∙ c .before .before .before .before .before .before .before .before .before .before .before .before .before .before .before .before .before .before .before .before .before .before .before .before .before .before .before .before .before .before .before .before .work .kept .1 .1 .0
 
 same-length-3 : tie.Need-same-length-3
-same-length-3 c = c .before .before .before .before .before .before .before .before .before .before .before .before .run .kept .1 .1 .1 .0
+same-length-3 c = c .before .before .before .before .before .before .before .before .before .before .before .before .wipe .kept .1 .1 .1 .0 ∙ c .before .before .before .before .before .before .before .before .before .before .before .before .before .before .before .before .before .before .before .before .before .before .before .before .before .before .before .before .before .before .before .before .work .kept .1 .1 .1 .0
 
 same-length-4 : tie.Need-same-length-4
-same-length-4 c = c .before .before .before .before .before .before .before .before .before .before .before .before .run .kept .1 .1 .1 .1 .0
+same-length-4 c = c .before .before .before .before .before .before .before .before .before .before .before .before .wipe .kept .1 .1 .1 .1 .0 ∙ c .before .before .before .before .before .before .before .before .before .before .before .before .before .before .before .before .before .before .before .before .before .before .before .before .before .before .before .before .before .before .before .before .work .kept .1 .1 .1 .1 .0
 
 same-length-5 : tie.Need-same-length-5
-same-length-5 c = c .before .before .before .before .before .before .before .before .before .before .before .before .run .kept .1 .1 .1 .1 .1 .0
+same-length-5 c = c .before .before .before .before .before .before .before .before .before .before .before .before .wipe .kept .1 .1 .1 .1 .1 .0 ∙ c .before .before .before .before .before .before .before .before .before .before .before .before .before .before .before .before .before .before .before .before .before .before .before .before .before .before .before .before .before .before .before .before .work .kept .1 .1 .1 .1 .1 .0
 
 same-length-6 : tie.Need-same-length-6
-same-length-6 c = c .before .before .before .before .before .before .before .before .before .before .before .before .run .kept .1 .1 .1 .1 .1 .1 .0
+same-length-6 c = c .before .before .before .before .before .before .before .before .before .before .before .before .wipe .kept .1 .1 .1 .1 .1 .1 .0 ∙ c .before .before .before .before .before .before .before .before .before .before .before .before .before .before .before .before .before .before .before .before .before .before .before .before .before .before .before .before .before .before .before .before .work .kept .1 .1 .1 .1 .1 .1 .0
 
 returns-3 : tie.Need-returns-3
-returns-3 c = c .before .before .before .before .before .before .before .before .before .before .before .before .run .ensures
+returns-3 c =
+    let o = c .before .before .before .before .before .before .before .before .before .before .before .before .before .before .before .before .before .before .before .before .before .before .before .before .before .before .before .before .before .before .before .before .before .before .before .before .before .before .before .before .before .before .before .before .before .before .before .before .before .before .before .before .args in
+    let k = c .before .before .before .before .before .before .before .before .before .before .before .before .before .before .before .before .before .before .before .before .before .before .before .before .before .before .before .before .before .before .before .before .work in
+    let w = c .before .before .before .before .before .before .before .before .before .before .before .before .wipe .ensures in
+    let m = lent (o .plausible .now) (o .counts .now) (o .feasible .now) (o .tally .now) (o .up .now) (o .down .now) in
+    let m′ = lent (k .last .1 .0) (k .last .1 .1 .0) (k .last .1 .1 .1 .0) (k .last .1 .1 .1 .1 .0) (k .last .1 .1 .1 .1 .1 .0) (k .last .1 .1 .1 .1 .1 .1 .0) in
+    built _ m m′ _ (k .result) (c .before .before .before .before .before .before .before .before .before .before .before .before .before .before .before .before .before .before .before .refuses .result) (k .ensures) (c .before .before .before .before .before .before .before .before .before .before .before .before .before .before .before .before .before .before .before .refuses .ensures)
+    (wiped-same m m′ (k .kept .1 .0) (k .kept .1 .1 .0) (k .kept .1 .1 .1 .0) (k .kept .1 .1 .1 .1 .0) (k .kept .1 .1 .1 .1 .1 .0) (k .kept .1 .1 .1 .1 .1 .1 .0))
+    (left (c .before .before .before .before .before .before .before .before .before .before .before .before .before .before .before .before .before .before .before .refuses .result) (k .last .1 .0) (k .last .1 .1 .0) (k .last .1 .1 .1 .0) (k .last .1 .1 .1 .1 .0) (k .last .1 .1 .1 .1 .1 .0) (k .last .1 .1 .1 .1 .1 .1 .0) _ _ _ _ _ _ (w .0) (w .1) (w .2) (w .3) (w .4) (w .5))
 
 pub build-spec : {M : Type 1} → statement M
 build-spec =
@@ -62,11 +73,12 @@ build-spec =
     check-book-requires
     enum-known-number
     enum-known-kinds
-    span-requires
+    cast-too-short
     too-short-requires
-    refused-requires
     returns
-    run-requires
+    work-requires
+    refuses-requires
+    wipe-requires
     returns-2
     same-length
     same-length-2

@@ -23,24 +23,26 @@ abbrev μ-loop : tie.MeasureT-loop
 arity-requires : tie.Need-arity-requires Inv-loop μ-loop
 arity-requires c κs = search needs
 
-wide-requires : tie.Need-wide-requires Inv-loop μ-loop
-wide-requires c κs = search needs
+cast-n : tie.Need-cast-n Inv-loop μ-loop
+cast-n c = search needs
 
 loop-holds : tie.Need-loop-holds Inv-loop μ-loop
-loop-holds c = λ p l e. round-begun (DownVisit (c .before .before .before .before .before .before .before .args .book .now) (c .before .before .before .before .before .before .before .args .plausible .now) (c .before .before .before .before .before .before .before .args .counts .now) p (c .before .before .before .before .before .before .before .args .feasible .now) (c .before .before .before .before .before .before .before .args .tally .now)) (c .wide .result) (c .before .before .before .before .before .before .before .pre .3)
+loop-holds c = λ p l e.
+    let o = c .before .before .before .before .before .before in
+    round-begun (DownVisit (o .args .book .now) (o .args .plausible .now) (o .args .counts .now) p (o .args .feasible .now) (o .args .tally .now)) (c .arity .result) (o .pre .3)
 
-add-narrow : tie.Need-add-narrow Inv-loop μ-loop
-add-narrow c = omega arith
+add-visit-down : tie.Need-add-visit-down Inv-loop μ-loop
+add-visit-down c = omega arith
 
-narrow-requires : tie.Need-narrow-requires Inv-loop μ-loop
-narrow-requires c κs = omega (arith, c .before .before .wide .ensures .1)
+cast-visit-down : tie.Need-cast-visit-down Inv-loop μ-loop
+cast-visit-down c = search needs
 
 visit-down-requires : tie.Need-visit-down-requires Inv-loop μ-loop
 visit-down-requires c κs =
-    let (a, (p, l, e), s, f) = c .before .before .before .before .before .before .before .before .before .before .before .before .pre in
-    let z : c .before .before .before .before .before .wide .result ≡ length (grammar (c .before .before .before .before .before .before .before .before .before .before .before .before .args .book .now) .kids p) = c .before .before .before .before .before .wide .ensures .0 ∙ c .before .before .before .before .before .before .arity .ensures ∙ ap (arity-at (c .before .before .before .before .before .before .before .before .before .before .before .before .args .book .now)) e ∙ arity-read a p l in
-    let h = c .before .before .before .before .loop .inv p l e in
-    (a, (p, c .before .before .before .before .loop .j, l, e, omega arith, omega (arith, c .before .before .narrow .ensures)), s, fine-own (h .turned .fine))
+    let o = c .before .before .before .before .before .before .before .before .before .before in
+    let (a, (p, l, e), s, f) = o .pre in
+    let z : c .before .before .before .before .arity .result ≡ length (grammar (o .args .book .now) .kids p) = c .before .before .before .before .arity .ensures ∙ ap (arity-at (o .args .book .now)) e ∙ arity-read a p l in
+    (a, (p, c .before .before .before .loop .j, l, e, omega arith, omega arith), s, fine-own (c .before .before .before .loop .inv p l e .turned .fine))
 
 joined-requires : tie.Need-joined-requires Inv-loop μ-loop
 joined-requires c κs = search needs
@@ -53,28 +55,34 @@ loop-less c = round-less (c .before .joined .result) (omega arith) (c .beyond .e
 
 loop-again : tie.Need-loop-again Inv-loop μ-loop
 loop-again c = λ p l e.
-    let (a, x, s, f) = c .before .before .before .before .before .before .before .before .before .before .before .before .before .before .before .before .before .before .before .pre in
-    let z : c .before .before .before .before .before .before .before .before .before .before .before .before .wide .result ≡ length (grammar (c .before .before .before .before .before .before .before .before .before .before .before .before .before .before .before .before .before .before .before .args .book .now) .kids p) = c .before .before .before .before .before .before .before .before .before .before .before .before .wide .ensures .0 ∙ c .before .before .before .before .before .before .before .before .before .before .before .before .before .arity .ensures ∙ ap (arity-at (c .before .before .before .before .before .before .before .before .before .before .before .before .before .before .before .before .before .before .before .args .book .now)) e ∙ arity-read a p l in
-    let h = c .before .before .before .before .before .before .before .before .before .before .before .loop .inv p l e in
-    let k : c .before .before .before .before .before .before .before .before .before .before .before .loop .j < length (grammar (c .before .before .before .before .before .before .before .before .before .before .before .before .before .before .before .before .before .before .before .args .book .now) .kids p) = omega arith in
-    let u = down-visited a p l (c .before .before .before .before .before .before .before .before .before .before .before .before .before .before .before .before .before .before .before .args .plausible .now) (c .before .before .before .before .before .before .before .before .before .before .before .before .before .before .before .before .before .before .before .args .counts .now) (c .before .before .before .before .before .before .before .before .before .before .before .before .before .before .before .before .before .before .before .args .feasible .now) (c .before .before .before .before .before .before .before .before .before .before .before .before .before .before .before .before .before .before .before .args .tally .now) s (h .turned .fine) (h .turned .kept) k
-    (c .before .before .before .before .before .before .visit-down .ensures p (c .before .before .before .before .before .before .before .before .before .before .before .loop .j) l e k (omega (arith, c .before .before .before .before .before .before .before .before .before .narrow .ensures))) in
-    round-next h (omega arith) (down-visit-lasts a p l (c .before .before .before .before .before .before .before .before .before .before .before .before .before .before .before .before .before .before .before .args .plausible .now) (c .before .before .before .before .before .before .before .before .before .before .before .before .before .before .before .before .before .before .before .args .counts .now) (c .before .before .before .before .before .before .before .before .before .before .before .before .before .before .before .before .before .before .before .args .feasible .now) (c .before .before .before .before .before .before .before .before .before .before .before .before .before .before .before .before .before .before .before .args .tally .now)) u (c .before .joined .ensures) (c .beyond .ensures)
+    let o = c .before .before .before .before .before .before .before .before .before .before .before .before .before .before .before .before .before in
+    let b = o .args .book .now in
+    let s = o .args .plausible .now in
+    let n = o .args .counts .now in
+    let f = o .args .feasible .now in
+    let d = o .args .tally .now in
+    let (a, x, g, y) = o .pre in
+    let z : c .before .before .before .before .before .before .before .before .before .before .before .arity .result ≡ length (grammar b .kids p) = c .before .before .before .before .before .before .before .before .before .before .before .arity .ensures ∙ ap (arity-at b) e ∙ arity-read a p l in
+    let h = c .before .before .before .before .before .before .before .before .before .before .loop .inv p l e in
+    let k : c .before .before .before .before .before .before .before .before .before .before .loop .j < length (grammar b .kids p) = omega arith in
+    let u = down-visited a p l s n f d g (h .turned .fine) (h .turned .kept) k (c .before .before .before .before .before .before .visit-down .ensures p (c .before .before .before .before .before .before .before .before .before .before .loop .j) l e k (omega arith)) in
+    round-next h (omega arith) (down-visit-lasts a p l s n f d) u (c .before .joined .ensures) (c .beyond .ensures)
 
 same-length : tie.Need-same-length Inv-loop μ-loop
 same-length c =
-    let (a, (p, l, e), s, f) = c .before .before .before .before .before .before .before .before .before .pre in
+    let (a, (p, l, e), s, f) = c .before .before .before .before .before .before .before .before .pre in
     c .before .loop .inv p l e .turned .kept .long
 
 same-length-2 : tie.Need-same-length-2 Inv-loop μ-loop
 same-length-2 c =
-    let (a, (p, l, e), s, f) = c .before .before .before .before .before .before .before .before .before .pre in
+    let (a, (p, l, e), s, f) = c .before .before .before .before .before .before .before .before .pre in
     c .before .loop .inv p l e .turned .kept .long-c
 
 returns : tie.Need-returns Inv-loop μ-loop
 returns c = λ p l e.
-    let (a, x, s, f) = c .before .before .before .before .before .before .before .before .before .pre in
-    let z : c .before .before .wide .result ≡ length (grammar (c .before .before .before .before .before .before .before .before .before .args .book .now) .kids p) = c .before .before .wide .ensures .0 ∙ c .before .before .before .arity .ensures ∙ ap (arity-at (c .before .before .before .before .before .before .before .before .before .args .book .now)) e ∙ arity-read a p l in
+    let o = c .before .before .before .before .before .before .before .before in
+    let (a, x, s, f) = o .pre in
+    let z : c .before .before .arity .result ≡ length (grammar (o .args .book .now) .kids p) = c .before .before .arity .ensures ∙ ap (arity-at (o .args .book .now)) e ∙ arity-read a p l in
     round-done (c .before .loop .inv p l e) (λ d j q. d j (omega arith) q)
 
 pub serve-down-spec : {M : Type 1} → statement M
@@ -84,10 +92,10 @@ serve-down-spec =
     Inv-loop
     μ-loop
     arity-requires
-    wide-requires
+    cast-n
     loop-holds
-    add-narrow
-    narrow-requires
+    add-visit-down
+    cast-visit-down
     visit-down-requires
     joined-requires
     beyond-requires

@@ -14,18 +14,15 @@ slice-aggregate-upward c = search needs
 upward-requires : tie.Need-upward-requires
 upward-requires c κs = search needs
 
-refused-requires : tie.Need-refused-requires
-refused-requires c κs = search needs
-
 same-length : tie.Need-same-length
-same-length c = c .before .before .before .before .before .before .upward .kept .1 .1 .0
+same-length c = c .before .before .before .before .before .upward .kept .1 .1 .0
 
 same-length-2 : tie.Need-same-length-2
-same-length-2 c = c .before .before .before .before .before .before .upward .kept .1 .1 .1 .0
+same-length-2 c = c .before .before .before .before .before .upward .kept .1 .1 .1 .0
 
 returns : tie.Need-returns
 returns c =
-    worked-plausible (c .before .before .before .before .before .before .before .before .before .before .before .before .before .before .before .before .before .before .pre) _ _ (c .before .before .before .before .before .before .upward .ensures) (not-true _ (c .before .if1 .taken)) (c .refused .ensures)
+    worked-plausible (c .before .before .before .before .before .before .before .before .before .before .before .before .before .before .before .before .before .pre) _ (c .before .before .before .before .before .upward .ensures) (not-true _ (c .if1 .taken))
 
 slice-aggregate-downward : tie.Need-slice-aggregate-downward
 slice-aggregate-downward c = search needs
@@ -35,24 +32,21 @@ downward-requires c κs =
     let ready = c .before .before .before .before .before .before .before .before .before .before .before .before .before .before .before .before .before .before .before .before .before .before .pre in
     (ready .book, c .before .before .before .before .before .before .before .before .before .before .before .before .before .before .index .ensures, plausible-held ready (c .before .before .before .before .before .before .before .before .before .before .upward .ensures) (not-false _ (c .before .before .before .before .before .if1 .left)), ready .room .feasible, ready .room .feasible-counts)
 
-refused-requires-2 : tie.Need-refused-requires-2
-refused-requires-2 c κs = search needs
-
 same-length-3 : tie.Need-same-length-3
-same-length-3 c = c .before .before .before .before .before .before .before .before .before .before .before .before .before .before .before .before .before .upward .kept .1 .1 .0
+same-length-3 c = c .before .before .before .before .before .before .before .before .before .before .before .before .before .before .before .before .upward .kept .1 .1 .0
 
 same-length-4 : tie.Need-same-length-4
-same-length-4 c = c .before .before .before .before .before .before .before .before .before .before .before .before .before .before .before .before .before .upward .kept .1 .1 .1 .0
+same-length-4 c = c .before .before .before .before .before .before .before .before .before .before .before .before .before .before .before .before .upward .kept .1 .1 .1 .0
 
 same-length-5 : tie.Need-same-length-5
-same-length-5 c = c .before .before .before .before .before .before .downward .kept .1 .1 .1 .1 .0
+same-length-5 c = c .before .before .before .before .before .downward .kept .1 .1 .1 .1 .0
 
 same-length-6 : tie.Need-same-length-6
-same-length-6 c = c .before .before .before .before .before .before .downward .kept .1 .1 .1 .1 .1 .0
+same-length-6 c = c .before .before .before .before .before .downward .kept .1 .1 .1 .1 .1 .0
 
 returns-2 : tie.Need-returns-2
 returns-2 c =
-    worked-feasible (c .before .before .before .before .before .before .before .before .before .before .before .before .before .before .before .before .before .before .before .before .before .before .before .before .before .before .before .before .before .pre) (c .before .before .before .before .before .before .before .before .before .before .before .before .before .before .before .before .before .upward .ensures) (not-false _ (c .before .before .before .before .before .before .before .before .before .before .before .before .if1 .left)) _ _ (c .before .before .before .before .before .before .downward .ensures) (not-true _ (c .before .if2 .taken)) (c .refused2 .ensures)
+    worked-feasible (c .before .before .before .before .before .before .before .before .before .before .before .before .before .before .before .before .before .before .before .before .before .before .before .before .before .before .before .before .pre) (c .before .before .before .before .before .before .before .before .before .before .before .before .before .before .before .before .upward .ensures) (not-false _ (c .before .before .before .before .before .before .before .before .before .before .before .if1 .left)) _ (c .before .before .before .before .before .downward .ensures) (not-true _ (c .if2 .taken))
 
 write-tables-requires : tie.Need-write-tables-requires
 write-tables-requires c κs =
@@ -88,13 +82,11 @@ work-spec =
     index-requires
     slice-aggregate-upward
     upward-requires
-    refused-requires
     same-length
     same-length-2
     returns
     slice-aggregate-downward
     downward-requires
-    refused-requires-2
     same-length-3
     same-length-4
     same-length-5

@@ -8,26 +8,14 @@ use Rattle.tables.proofs.making.write_tables.Tie as tie
 total-up-requires : tie.Need-total-up-requires
 total-up-requires c κs = search needs
 
-long-requires : tie.Need-long-requires
-long-requires c κs = search needs
-
-refused-requires : tie.Need-refused-requires
-refused-requires c κs = search needs
-
 returns : tie.Need-returns
-returns c = tabled-up _ _ _ _ _ _ _ _ _ _ (omega arith) (search needs)
+returns c = tabled-up _ _ _ _ _ _ _ _ _ (omega arith)
 
 total-down-requires : tie.Need-total-down-requires
 total-down-requires c κs = search needs
 
-long-requires-2 : tie.Need-long-requires-2
-long-requires-2 c κs = search needs
-
-refused-requires-2 : tie.Need-refused-requires-2
-refused-requires-2 c κs = search needs
-
 returns-2 : tie.Need-returns-2
-returns-2 c = tabled-down _ _ _ _ _ _ _ _ _ _ (omega arith) (omega arith) (search needs)
+returns-2 c = tabled-down _ _ _ _ _ _ _ _ _ (omega arith) (omega arith)
 
 fill-up-requires : tie.Need-fill-up-requires
 fill-up-requires c κs = search needs
@@ -49,12 +37,8 @@ write-tables-spec =
     tie.close
     (tie.spec
     total-up-requires
-    long-requires
-    refused-requires
     returns
     total-down-requires
-    long-requires-2
-    refused-requires-2
     returns-2
     fill-up-requires
     fill-down-requires

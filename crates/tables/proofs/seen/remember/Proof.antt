@@ -1,6 +1,8 @@
 -- A state put at a level. Assumes nothing.
 use native.Mathlib.Omega.{arith}
 use borrow.Author.Needs.{needs}
+use Prim.Native.Nat.{_*_}
+use Rattle.tables.specs.Seen.{level-bytes}
 use Rattle.tables.proofs.StatesSeen.{remember-put}
 use Rattle.tables.proofs.seen.remember.Statement.{statement}
 use Rattle.tables.proofs.seen.remember.Tie as tie
@@ -14,8 +16,8 @@ slice-read-counter c = search needs
 add-lay : tie.Need-add-lay
 add-lay c = search needs
 
-wide-requires : tie.Need-wide-requires
-wide-requires c κs = search needs
+cast-lay : tie.Need-cast-lay
+cast-lay c = omega (arith, c .before .slice-known2 .given (c .before .before .before .args .level * level-bytes))
 
 mul-lay : tie.Need-mul-lay
 mul-lay c = search needs
@@ -37,8 +39,8 @@ same-length c = search needs
 
 returns : tie.Need-returns
 returns c =
-    let o = c .before .before .before .before .before .before .before .before .before in
-    remember-put (o .args .seen .now) (o .args .s .now) (o .args .level) (c .before .before .before .before .before .wide .ensures .0) (c .before .before .before .lay .ensures .room (omega (arith, o .pre .0, o .pre .1, o .pre .2, c .before .before .before .before .before .wide .ensures .0))) (c .advanced .ensures)
+    let o = c .before .before .before .before .before .before .before .before in
+    remember-put (o .args .seen .now) (o .args .s .now) (o .args .level) (c .before .before .before .lay .ensures .room (omega (arith, o .pre .0, o .pre .1, o .pre .2))) (c .advanced .ensures)
 
 pub remember-spec : {M : Type 1} → statement M
 remember-spec =
@@ -47,7 +49,7 @@ remember-spec =
     mul-base
     slice-read-counter
     add-lay
-    wide-requires
+    cast-lay
     mul-lay
     add-lay-2
     lay-requires

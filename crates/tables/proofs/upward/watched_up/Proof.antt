@@ -26,17 +26,17 @@ loop-holds c = (omega arith, ap suc (sym (total-none _ _)), omega arith)
 kid-requires : tie.Need-kid-requires Inv-loop μ-loop
 kid-requires c κs = search needs
 
-cast-word : tie.Need-cast-word Inv-loop μ-loop
-cast-word c = search needs
+cast-sum : tie.Need-cast-sum Inv-loop μ-loop
+cast-sum c = search needs
 
-shared-slice-read-word : tie.Need-shared-slice-read-word Inv-loop μ-loop
-shared-slice-read-word c = rw (c .before .kid .ensures) (c .before .before .before .before .before .before .before .pre .1 (c .before .before .before .loop .i) (omega arith))
+shared-slice-read-sum : tie.Need-shared-slice-read-sum Inv-loop μ-loop
+shared-slice-read-sum c = rw (c .before .kid .ensures) (c .before .before .before .before .before .before .before .pre .1 (c .before .before .before .loop .i) (omega arith))
 
-word-requires : tie.Need-word-requires Inv-loop μ-loop
-word-requires c κs = search needs
+cast-sum-2 : tie.Need-cast-sum-2 Inv-loop μ-loop
+cast-sum-2 c = omega (arith, c .shared-slice-known3 .given (c .before .kid .result))
 
 add-sum : tie.Need-add-sum Inv-loop μ-loop
-add-sum c = search needs
+add-sum c = omega (arith, c .shared-slice-known3 .given (c .before .kid .result))
 
 add-i : tie.Need-add-i Inv-loop μ-loop
 add-i c = search needs
@@ -46,10 +46,10 @@ loop-less c = search needs
 
 loop-again : tie.Need-loop-again Inv-loop μ-loop
 loop-again c =
-    let o = c .before .before .before .before .loop in
-    let a = c .before .before .before .before .before .before .before .before .args in
-    let e : getD (a .counts .now) (c .before .before .kid .result) 0 ≡ getD (a .counts .now) (kid-at (a .book .now) (a .at) (o .i)) 0 = rw (c .before .before .kid .ensures) in
-    (omega arith, omega (arith, total-more (a .counts .now) (kid-at (a .book .now) (a .at)) (o .i)), omega arith)
+    let o = c .before .before .before .loop in
+    let a = c .before .before .before .before .before .before .before .args in
+    let e : getD (a .counts .now) (c .before .kid .result) 0 ≡ getD (a .counts .now) (kid-at (a .book .now) (a .at) (o .i)) 0 = rw (c .before .kid .ensures) in
+    (omega arith, omega (arith, total-more (a .counts .now) (kid-at (a .book .now) (a .at)) (o .i)), omega (arith, c .shared-slice-known3 .given (c .before .kid .result)))
 
 returns : tie.Need-returns Inv-loop μ-loop
 returns c =
@@ -65,9 +65,9 @@ watched-up-spec =
     arity-requires
     loop-holds
     kid-requires
-    cast-word
-    shared-slice-read-word
-    word-requires
+    cast-sum
+    shared-slice-read-sum
+    cast-sum-2
     add-sum
     add-i
     loop-less
