@@ -8,7 +8,6 @@ ghost use Rattle.ranks.specs.Entries.{labels};
 ghost use Rattle.members.specs.Sets.{Put};
 ghost use Rattle.tables.specs.Visit.{max-turns, Ready, Standing, InOrder, released, chosen, Request, Reply};
 use super::labels::LABELS;
-use super::labels::NONE;
 use super::labels::SLOTS;
 use super::labels::forget;
 use super::labels::tidy;
@@ -43,15 +42,16 @@ fn release(t: &mut [u8; LABELS], slot: u8, target: u8)
 }
 
 // The state s once turn j has chosen a code: tied to its slot, and the slot released.
-fn choose(v: Visit, j: usize, code: u32, s: &[u8; LABELS], t: &mut [u8; LABELS])
-    requires { ⌜ Ready v (suc j) × (j < max-turns) × Standing v (suc j) (now s) × (length (now t) ≡ labels) ⌝ }
-    ensures { λ _. ⌜ now (t .exit) ≡ chosen v j code (now (s .entry)) ⌝ }
+fn choose(v: Visit, j: usize, code: u32, s: &[u8; LABELS]) -> [u8; LABELS]
+    requires { ⌜ Ready v (suc j) × (j < max-turns) × Standing v (suc j) (now s) ⌝ }
+    ensures { λ r. ⌜ r ≡ chosen v j code (now (s .entry)) ⌝ }
 {
     let slot = v.slots[j];
-    *t = *s;
-    tie(t, slot, v.widths[j], code);
-    release(t, slot, v.target);
-    tidy(t);
+    let mut t = *s;
+    tie(&mut t, slot, v.widths[j], code);
+    release(&mut t, slot, v.target);
+    tidy(&mut t);
+    t
 }
 
 // All turns are over: what the state says on the slot looked at is put into the kind's set.
@@ -84,11 +84,10 @@ pub fn gather(
     }
     let k = j - 1;
     let n = v.sizes[k] as usize;
-    let mut t = [NONE; LABELS];
     let mut turn = Turn::Still;
     let mut i = 0;
     while i < n {
-        choose(v, k, lists[k * MAX_MEMBERS + i], s, &mut t);
+        let t = choose(v, k, lists[k * MAX_MEMBERS + i], s);
         turn = joined(turn, gather(v, k, &t, lists, seen, sets, counts));
         i = beyond(turn, i, n);
     }
