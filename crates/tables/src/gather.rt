@@ -6,7 +6,7 @@ ghost use Rattle.chains.specs.Limits.{max-kids};
 ghost use Rattle.chains.specs.State.{code-on};
 ghost use Rattle.ranks.specs.Entries.{labels};
 ghost use Rattle.members.specs.Sets.{Put};
-ghost use Rattle.tables.specs.Visit.{max-turns, Ready, Standing, InOrder, released, chosen, Request, Reply};
+ghost use Rattle.tables.specs.Visit.{max-turns, size-of, Ready, Standing, InOrder, released, chosen, Request, Reply};
 use super::labels::LABELS;
 use super::labels::SLOTS;
 use super::labels::forget;
@@ -62,6 +62,14 @@ fn enter(v: Visit, s: &[u8; LABELS], sets: &mut [u32], counts: &mut [u8]) -> Tur
     members::put(sets, counts, v.kind as usize, view(s, v.target, v.width))
 }
 
+// The number of codes that turn j has to choose from.
+fn codes(v: Visit, j: usize) -> usize
+    requires { ⌜ j < max-turns ⌝ }
+    ensures { λ r. ⌜ r ≡ size-of v j ⌝ }
+{
+    v.sizes[j] as usize
+}
+
 // Whatever comes of the state s by choices for the turns before j is put into the kind's set. The state may have been met before: then all of that is
 // there.
 pub fn gather(
@@ -83,7 +91,7 @@ pub fn gather(
         return Turn::Still;
     }
     let k = j - 1;
-    let n = v.sizes[k] as usize;
+    let n = codes(v, k);
     let mut turn = Turn::Still;
     let mut i = 0;
     while i < n {

@@ -12,6 +12,7 @@ use Rattle.tables.proofs.gather.gather.Reads as gather
 use Rattle.tables.proofs.gather.gather.Kinds as gather-kinds
 use Rattle.tables.proofs.gather.+gather.Lts-gather as gather-lts
 use Rattle.tables.proofs.gather.choose.Reads as choose-reads
+use Rattle.tables.proofs.gather.codes.Reads as codes-reads
 use Rattle.tables.proofs.gather.enter.Reads as enter-reads
 use Rattle.tables.proofs.seen.known.Reads as known-reads
 use Rattle.tables.proofs.seen.remember.Reads as remember-reads
@@ -31,13 +32,13 @@ gather-below t = and 5 gather-kinds.ps (falls 5 gather-kinds.ps _<_ μ-gather t)
 
 -- what the callees ask and give; the recursive call only where turns fall
 abbrev claims : ℕ → gather-lts.Claims
-claims t = (enter-reads.Asked, enter-reads.Learnt, known-reads.Asked, known-reads.Learnt, choose-reads.Asked, choose-reads.Learnt, gather-below t, gather.Post, joined-reads.Asked, joined-reads.Learnt, beyond-reads.Asked, beyond-reads.Learnt, remember-reads.Asked, remember-reads.Learnt)
+claims t = (enter-reads.Asked, enter-reads.Learnt, known-reads.Asked, known-reads.Learnt, codes-reads.Asked, codes-reads.Learnt, choose-reads.Asked, choose-reads.Learnt, gather-below t, gather.Post, joined-reads.Asked, joined-reads.Learnt, beyond-reads.Asked, beyond-reads.Learnt, remember-reads.Asked, remember-reads.Learnt)
 
 abbrev gather-Inv-loop : gather-lts.InvT-loop
-gather-Inv-loop j s lists seen₀ sets₀ counts₀ v k n turn₀ i₀ seen sets counts turn i = Looping v lists (j - 1) s n sets₀ counts₀ seen sets counts turn i
+gather-Inv-loop v j s lists seen₀ sets₀ counts₀ k n turn₀ i₀ seen sets counts turn i = Looping v lists (j - 1) s n sets₀ counts₀ seen sets counts turn i
 
 abbrev gather-μ-loop : gather-lts.MeasureT-loop
-gather-μ-loop j s lists seen₀ sets₀ counts₀ v k n turn₀ i₀ seen sets counts turn i = n - i
+gather-μ-loop v j s lists seen₀ sets₀ counts₀ k n turn₀ i₀ seen sets counts turn i = n - i
 
 module _ (t : ℕ) where
   enter-requires : gather-lts.Need-enter-requires (claims t) (gather-at t) gather.Post gather-Inv-loop gather-μ-loop
@@ -73,11 +74,8 @@ module _ (t : ℕ) where
   sub-k : gather-lts.Need-sub-k (claims t) (gather-at t) gather.Post gather-Inv-loop gather-μ-loop
   sub-k c = omega arith
 
-  element-copy-out-n : gather-lts.Need-element-copy-out-n (claims t) (gather-at t) gather.Post gather-Inv-loop gather-μ-loop
-  element-copy-out-n c = omega (arith, c .before .before .before .before .before .before .before .before .pre .1 .ready .few)
-
-  cast-n : gather-lts.Need-cast-n (claims t) (gather-at t) gather.Post gather-Inv-loop gather-μ-loop
-  cast-n c = search needs
+  codes-requires : gather-lts.Need-codes-requires (claims t) (gather-at t) gather.Post gather-Inv-loop gather-μ-loop
+  codes-requires c κs = omega (arith, c .before .before .before .before .before .before .before .before .pre .1 .ready .few)
 
   loop-holds : gather-lts.Need-loop-holds (claims t) (gather-at t) gather.Post gather-Inv-loop gather-μ-loop
   loop-holds c =
@@ -134,7 +132,7 @@ module _ (t : ℕ) where
       let q = rw e at (c .before .before .before .before .before .before .before .before .before .before .before .before .before .before .before .before .before .before .before .before .before .before .before .before .before .before .pre .1) in
       let h = c .before .before .before .before .before .before .before .before .before .before .before .before .before .before .before .before .loop .inv in
       let w = c .before .before .before .before .before .before .before .before .before .before .before .before .before .choose .ensures in
-      let b : c .before .before .before .before .before .before .before .before .before .before .before .before .before .before .before .before .loop .i < size-of (c .before .before .before .before .before .before .before .before .before .before .before .before .before .before .before .before .before .before .before .before .before .before .before .before .before .before .args .t1) (c .before .before .before .before .before .before .before .before .before .before .before .before .before .before .before .before .before .before .before .before .before .before .before .before .before .before .args .j - 1) = omega arith in
+      let b : c .before .before .before .before .before .before .before .before .before .before .before .before .before .before .before .before .loop .i < size-of (c .before .before .before .before .before .before .before .before .before .before .before .before .before .before .before .before .before .before .before .before .before .before .before .before .before .before .args .v) (c .before .before .before .before .before .before .before .before .before .before .before .before .before .before .before .before .before .before .before .before .before .before .before .before .before .before .args .j - 1) = omega arith in
       loop-next _ _ _ _ q h w b (c .before .before .before .before .before .before .before .before .gather .ensures) (omega arith) (c .before .before .before .before .before .before .before .before .gather .kept .1 .1 .1 .1 .0) (c .before .joined .ensures) (c .beyond .ensures)
 
   remember-requires : gather-lts.Need-remember-requires (claims t) (gather-at t) gather.Post gather-Inv-loop gather-μ-loop
@@ -164,8 +162,8 @@ module _ (t : ℕ) where
   returns-3 c =
       let e = one-less (c .before .before .before .before .before .before .before .before .before .before .before .before .before .before .before .args .j) (c .before .before .before .before .before .before .before .before .before .before .if1 .left) in
       let q = rw e at (c .before .before .before .before .before .before .before .before .before .before .before .before .before .before .before .pre .1) in
-      let b : size-of (c .before .before .before .before .before .before .before .before .before .before .before .before .before .before .before .args .t1) (c .before .before .before .before .before .before .before .before .before .before .before .before .before .before .before .args .j - 1) ≤ c .before .before .before .before .before .loop .i = omega arith in
+      let b : size-of (c .before .before .before .before .before .before .before .before .before .before .before .before .before .before .before .args .v) (c .before .before .before .before .before .before .before .before .before .before .before .before .before .before .before .args .j - 1) ≤ c .before .before .before .before .before .loop .i = omega arith in
       rw e (loop-end _ _ _ _ q (c .before .before .before .before .before .loop .inv) b (rw e at (c .before .before .remember .ensures)))
 
 pub +gather-spec : {M : Type 1} → statement M
-+gather-spec = close μ-gather (λ t. gather-lts.spec (claims t) (gather-at t) gather.Post gather-Inv-loop gather-μ-loop (enter-requires t) (same-length t) (same-length-2 t) (returns t) (known-requires t) (same-length-3 t) (returns-2 t) (sub-k t) (element-copy-out-n t) (cast-n t) (loop-holds t) (mul-choose t) (add-choose t) (mul-choose-2 t) (shared-slice-read-choose t) (choose-requires t) (gather-requires t) (joined-requires t) (beyond-requires t) (loop-less t) (loop-again t) (remember-requires t) (same-length-4 t) (same-length-5 t) (same-length-6 t) (returns-3 t))
++gather-spec = close μ-gather (λ t. gather-lts.spec (claims t) (gather-at t) gather.Post gather-Inv-loop gather-μ-loop (enter-requires t) (same-length t) (same-length-2 t) (returns t) (known-requires t) (same-length-3 t) (returns-2 t) (sub-k t) (codes-requires t) (loop-holds t) (mul-choose t) (add-choose t) (mul-choose-2 t) (shared-slice-read-choose t) (choose-requires t) (gather-requires t) (joined-requires t) (beyond-requires t) (loop-less t) (loop-again t) (remember-requires t) (same-length-4 t) (same-length-5 t) (same-length-6 t) (returns-3 t))
