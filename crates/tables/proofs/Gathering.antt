@@ -1,12 +1,11 @@
 -- Gathering: the loop over a turn's codes, and the ways out of a call.
-use mathlib.Core.Path.{_≡_, refl, sym, ap, _∙_, subst}
+use mathlib.Core.Path.{_≡_, refl, sym, _∙_, subst}
 use mathlib.Core.Logic.{inl, inr, _↔_, ⊎-elim}
 use mathlib.Core.List.{List}
 use Prim.Native.Nat.{ℕ, suc, _-_, _≤_, _<_}
 use native.Mathlib.Omega.{arith}
 use lib.ListN.{length}
 use Rattle.chains.specs.State.{code-on}
-use Rattle.ranks.specs.Entries.{labels}
 use Rattle.members.specs.Sets.{Has, Put}
 use Rattle.tables.specs.Sets.{Over}
 use Rattle.tables.specs.Memory.{Fine, Kept, Turned}
