@@ -22,7 +22,7 @@ use Rattle.ranks.proofs.Numbers.{up-entry-below, down-entry-below}
 use Rattle.members.specs.Sets.{members, Has, member}
 use Rattle.tables.specs.Entries.{picked, Downward, UpTable, DownEntry, DownTable}
 use Rattle.tables.specs.Memory.{Fine}
-use Rattle.tables.specs.Promise.{Lent, up-entries, down-entries, Applies, of-book, BuildDue}
+use Rattle.tables.specs.Promise.{Lent, up-entries, down-entries, of-book, BuildDue}
 use Rattle.members.proofs.Ranked.{members-long}
 use Rattle.tables.proofs.Memory.{fine-placed}
 use Rattle.tables.proofs.Holds.{holds-fine}

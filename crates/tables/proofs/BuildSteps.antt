@@ -2,7 +2,7 @@
 use mathlib.Core.Path.{_≡_, sym, ap, _∙_, subst}
 use mathlib.Core.Bool.{Bool, true, false}
 use mathlib.Core.List.{List, [], _∷_}
-use Prim.Native.Nat.{ℕ, _*_, _≤_, _<_}
+use Prim.Native.Nat.{ℕ, _*_, _/_, _≤_, _<_}
 use native.Mathlib.Omega.{arith}
 use lib.ListN.{length}
 use Rattle.lists.specs.Pick.{pick}
@@ -59,27 +59,34 @@ module _ {b : List ℕ} {m : Lent} (ready : Ready b m) where
       worked-tables u w a t = record { due = tables-worked ready (o .holds e) (p .holds z) u w a (t .due) }
 
 -- ── the tables ──
-module _ (G : Grammar) (s c f d up down up′ down′ : List ℕ) where
-  pub tabled-up : length up < up-entries G c → Tabled G s c f d up down (refused 12 0) up′ down′
-  tabled-up l = record { due = up-exceeds l }
+-- the u entries of the up table and the w entries of the down table, held against their slices
+pub up-fits : {u e n : ℕ} → u ≡ e → u ≤ n → e ≤ n
+up-fits e l = omega arith
 
-  pub tabled-down : up-entries G c ≤ length up → length down < down-entries G c d * entry-bytes → Tabled G s c f d up down (refused 13 0) up′ down′
-  tabled-down fits l = record { due = down-exceeds fits l }
+pub down-fits : {w e n : ℕ} → w ≡ e → w ≤ n / entry-bytes → e * entry-bytes ≤ n
+down-fits e l = omega arith
 
-  pub tabled : (u w : ℕ) → u ≡ up-entries G c → w ≡ down-entries G c d → up-entries G c ≤ length up → down-entries G c d * entry-bytes ≤ length down
-      → UpTable G s c up′ × Written (up-entries G c) up up′ → DownTable G s c f d down′ × Written (down-entries G c d * entry-bytes) down down′
-      → Tabled G s c f d up down (accepted (u ∷ w ∷ [])) up′ down′
-  tabled u w e e′ fits fits′ t t′ = record {
-    due = record {
-      counted = rw (e, e′);
-      up-fits = fits;
-      down-fits = fits′;
-      up = t .0;
-      up-rest = t .1;
-      down = t′ .0;
-      down-rest = t′ .1;
-    };
-  }
+module _ (G : Grammar) (s c f d up down up′ down′ : List ℕ) {u : ℕ} (e : u ≡ up-entries G c) where
+  pub tabled-up : length up < u → Tabled G s c f d up down (refused 12 0) up′ down′
+  tabled-up l = record { due = up-exceeds (omega arith) }
+
+  module _ {w : ℕ} (fits : u ≤ length up) (e′ : w ≡ down-entries G c d) where
+    pub tabled-down : length down / entry-bytes < w → Tabled G s c f d up down (refused 13 0) up′ down′
+    tabled-down l = record { due = down-exceeds (omega arith) (omega arith) }
+
+    pub tabled : w ≤ length down / entry-bytes → UpTable G s c up′ × Written (up-entries G c) up up′
+        → DownTable G s c f d down′ × Written (down-entries G c d * entry-bytes) down down′ → Tabled G s c f d up down (accepted (u ∷ w ∷ [])) up′ down′
+    tabled fits′ t t′ = record {
+      due = record {
+        counted = rw (e, e′);
+        up-fits = up-fits e fits;
+        down-fits = down-fits e′ fits′;
+        up = t .0;
+        up-rest = t .1;
+        down = t′ .0;
+        down-rest = t′ .1;
+      };
+    }
 
 -- ── the whole ──
 -- what is left of the lent memory, wiped or not

@@ -1,5 +1,5 @@
 -- From the check of the book to the end of a build.
-use mathlib.Core.Path.{_≡_, refl, ap, _∙_}
+use mathlib.Core.Path.{_≡_, refl, _∙_}
 use mathlib.Core.Logic.{inl, inr}
 use mathlib.Core.Bool.{Bool, true, false}
 use mathlib.Core.List.{List, [], _∷_}
@@ -8,7 +8,7 @@ use native.Mathlib.Omega.{arith}
 use borrow.Author.Tests.{lt-ltb, le-ltb}
 use lib.Dec.{ltb}
 use lib.ListN.{length}
-use Rattle.lists.specs.Refusals.{Said, accepted, refused, Sooner, First}
+use Rattle.lists.specs.Refusals.{accepted, refused, Sooner, First}
 use Rattle.book.specs.Format.{kinds}
 use Rattle.bookcheck.specs.Refusals as rows
 use Rattle.bookcheck.proofs.Rows.{row-of-book}

@@ -1,13 +1,13 @@
 -- One entry: the ranks that it holds, its labels, and the run of one that it is.
 use mathlib.Core.Path.{_≡_, refl, sym, ap, _∙_, subst}
-use mathlib.Core.List.{List, [], _∷_, _++_, List·Memᴰ, append-nil}
+use mathlib.Core.List.{List, [], _∷_, _++_, append-nil}
 use Prim.Native.Nat.{ℕ, suc, _+_, _*_, _≤_, _<_}
 use native.Mathlib.Nat.{add-zero}
 use native.Mathlib.Omega.{arith}
 use borrow.Author.Count.{below-more}
 use lib.ListN.{length, getD, take, drop, set, length-append, length-set, take-append-drop, List·getD-append}
 use lib.Seq.{append-snoc, set-split, take-at, getD-append-add, getD-append-seam}
-use Rattle.lists.specs.Part.{part, place}
+use Rattle.lists.specs.Part.{place}
 use Rattle.lists.proofs.Carry.{placed}
 use Rattle.slices.specs.Slices.{Overlaid}
 use Rattle.chains.specs.Limits.{max-kids, max-members}

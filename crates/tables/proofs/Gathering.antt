@@ -1,12 +1,11 @@
 -- Gathering: the loop over a turn's codes, and the ways out of a call.
-use mathlib.Core.Path.{_≡_, refl, sym, ap, _∙_, subst}
+use mathlib.Core.Path.{_≡_, refl, sym, _∙_, subst}
 use mathlib.Core.Logic.{inl, inr, _↔_, ⊎-elim}
 use mathlib.Core.List.{List}
 use Prim.Native.Nat.{ℕ, suc, _-_, _≤_, _<_}
 use native.Mathlib.Omega.{arith}
 use lib.ListN.{length}
 use Rattle.chains.specs.State.{code-on}
-use Rattle.ranks.specs.Entries.{labels}
 use Rattle.members.specs.Sets.{Has, Put}
 use Rattle.tables.specs.Sets.{Over}
 use Rattle.tables.specs.Memory.{Fine, Kept, Turned}
@@ -89,10 +88,6 @@ module _ (v : Visit) (l : List ℕ) where
       pub seen : (t ≡ Full → ⊥) → Stored (Done v l s c) kept
       pub long : length kept ≡ seen-bytes
 
-    -- the loop's work array is as long as a state
-    abbrev pub Turning : (end : ℕ) (s₀ c₀ kept s c w : List ℕ) (t : Turn) (i : ℕ) → Type 0
-    Turning end s₀ c₀ kept s c w t i = Looping end s₀ c₀ kept s c t i × (length w ≡ labels)
-
     pub loop-begun : (end : ℕ) {kept s c : List ℕ} → Request v l (suc j) u kept s c → Looping end s c kept s c Still 0
     loop-begun end {kept} {s} {c} q = record {
       round = λ n h f. round-begun ChoiceIn end (fine-widen (λ k x b m. inl m) f);
@@ -123,9 +118,6 @@ module _ (v : Visit) (l : List ℕ) where
           order = record { kinds = q .order .kinds; below = q .order .below; fine = fine-own (now-round .turned .fine) };
           seen = h .seen (goes-on now-round b);
         }
-
-        pub loop-state : length w ≡ labels
-        loop-state = ap length e ∙ chosen-standing (q .ready) (q .standing) (code-of l j i) .state .long
 
         module _ {kept′ s′ c′ : List ℕ} {r : Turn} (l′ : i < size-of v j) (p : Reply v l j w s c kept′ s′ c′ r) where
           came : (x : ℕ) → Yields v l j w x → Yields v l (suc j) u x

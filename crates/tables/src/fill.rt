@@ -36,19 +36,20 @@ fn members_on(v: Shape, slot: u8, counts: &[u8]) -> usize
     counts[v.kinds[slot as usize] as usize] as usize
 }
 
-// The state t becomes s with a member tied to a slot.
-fn tie_member(v: Shape, slot: u8, r: usize, sets: &[u32], s: &[u8; LABELS], t: &mut [u8; LABELS])
+// The state s with a member tied to a slot.
+fn tie_member(v: Shape, slot: u8, r: usize, sets: &[u32], s: &[u8; LABELS]) -> [u8; LABELS]
     requires { ⌜ Sized v × Ready v (now s) × (slot ≤ v .arity) × (kind-of v slot * max-members + r < length (now sets)) ⌝ }
-    ensures { λ _. ⌜ now (t .exit) ≡ tied-once v slot (member (now (sets .entry)) (kind-of v slot) r) (now (s .entry)) ⌝ }
+    ensures { λ t. ⌜ t ≡ tied-once v slot (member (now (sets .entry)) (kind-of v slot) r) (now (s .entry)) ⌝ }
 {
     let i = slot as usize;
-    *t = *s;
+    let mut t = *s;
     tie(
-        t,
+        &mut t,
         slot,
         v.widths[i],
         sets[v.kinds[i] as usize * MAX_MEMBERS + r],
     );
+    t
 }
 
 // The entries of all choices for the slots from `slot` on, in order; the answer is the place behind them.
@@ -73,11 +74,10 @@ fn lay(
         return put_entry(table, v, s, ranked, sizes, out, at);
     }
     let n = members_on(v, slot, counts);
-    let mut t = [NONE; LABELS];
     let mut to = at;
     let mut r = 0;
     while r < n {
-        tie_member(v, slot, r, sets, s, &mut t);
+        let t = tie_member(v, slot, r, sets, s);
         to = lay(table, v, slot + 1, &t, sets, counts, ranked, sizes, out, to);
         r += 1;
     }
@@ -100,11 +100,10 @@ fn lay_down(
         (AllChoices v (now (sets .entry)) (now (counts .entry)) (now (feasible .entry)) (now (sizes .entry)) (kinds-from v 1) (now (s .entry))) (now (out .entry)) at (now (out .exit)) r ⌝ }
 {
     let n = members_on(v, 0, sizes);
-    let mut t = [NONE; LABELS];
     let mut to = at;
     let mut u = 0;
     while u < n {
-        tie_member(v, 0, u, feasible, s, &mut t);
+        let t = tie_member(v, 0, u, feasible, s);
         to = lay(
             Table::Down,
             v,

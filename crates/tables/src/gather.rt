@@ -6,9 +6,8 @@ ghost use Rattle.chains.specs.Limits.{max-kids};
 ghost use Rattle.chains.specs.State.{code-on};
 ghost use Rattle.ranks.specs.Entries.{labels};
 ghost use Rattle.members.specs.Sets.{Put};
-ghost use Rattle.tables.specs.Visit.{max-turns, Ready, Standing, InOrder, released, chosen, Request, Reply};
+ghost use Rattle.tables.specs.Visit.{max-turns, size-of, Ready, Standing, InOrder, released, chosen, Request, Reply};
 use super::labels::LABELS;
-use super::labels::NONE;
 use super::labels::SLOTS;
 use super::labels::forget;
 use super::labels::tidy;
@@ -43,15 +42,16 @@ fn release(t: &mut [u8; LABELS], slot: u8, target: u8)
 }
 
 // The state s once turn j has chosen a code: tied to its slot, and the slot released.
-fn choose(v: Visit, j: usize, code: u32, s: &[u8; LABELS], t: &mut [u8; LABELS])
-    requires { ⌜ Ready v (suc j) × (j < max-turns) × Standing v (suc j) (now s) × (length (now t) ≡ labels) ⌝ }
-    ensures { λ _. ⌜ now (t .exit) ≡ chosen v j code (now (s .entry)) ⌝ }
+fn choose(v: Visit, j: usize, code: u32, s: &[u8; LABELS]) -> [u8; LABELS]
+    requires { ⌜ Ready v (suc j) × (j < max-turns) × Standing v (suc j) (now s) ⌝ }
+    ensures { λ r. ⌜ r ≡ chosen v j code (now (s .entry)) ⌝ }
 {
     let slot = v.slots[j];
-    *t = *s;
-    tie(t, slot, v.widths[j], code);
-    release(t, slot, v.target);
-    tidy(t);
+    let mut t = *s;
+    tie(&mut t, slot, v.widths[j], code);
+    release(&mut t, slot, v.target);
+    tidy(&mut t);
+    t
 }
 
 // All turns are over: what the state says on the slot looked at is put into the kind's set.
@@ -60,6 +60,14 @@ fn enter(v: Visit, s: &[u8; LABELS], sets: &mut [u32], counts: &mut [u8]) -> Tur
     ensures { λ r. ⌜ Put (v .kind) (code-on (v .target) (v .width) (now (s .entry))) (now (sets .entry)) (now (counts .entry)) (now (sets .exit)) (now (counts .exit)) r ⌝ }
 {
     members::put(sets, counts, v.kind as usize, view(s, v.target, v.width))
+}
+
+// The number of codes that turn j has to choose from.
+fn codes(v: Visit, j: usize) -> usize
+    requires { ⌜ j < max-turns ⌝ }
+    ensures { λ r. ⌜ r ≡ size-of v j ⌝ }
+{
+    v.sizes[j] as usize
 }
 
 // Whatever comes of the state s by choices for the turns before j is put into the kind's set. The state may have been met before: then all of that is
@@ -83,12 +91,11 @@ pub fn gather(
         return Turn::Still;
     }
     let k = j - 1;
-    let n = v.sizes[k] as usize;
-    let mut t = [NONE; LABELS];
+    let n = codes(v, k);
     let mut turn = Turn::Still;
     let mut i = 0;
     while i < n {
-        choose(v, k, lists[k * MAX_MEMBERS + i], s, &mut t);
+        let t = choose(v, k, lists[k * MAX_MEMBERS + i], s);
         turn = joined(turn, gather(v, k, &t, lists, seen, sets, counts));
         i = beyond(turn, i, n);
     }

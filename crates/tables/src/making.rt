@@ -1,8 +1,6 @@
 // The build of an accepted book: the two passes, then the two tables.
 ghost use mathlib.Core.Path.{_≡_};
-ghost use Prim.Native.Nat.{_*_, _<_, _≤_};
-ghost use lib.ListN.{length};
-ghost use Rattle.lists.specs.Refusals.{refused};
+ghost use Prim.Native.Nat.{_*_, _<_};
 ghost use Rattle.book.specs.Format.{grammar};
 ghost use Rattle.tables.specs.Answer.{said, lent};
 ghost use Rattle.tables.specs.Shape.{Opened};

@@ -1,7 +1,7 @@
 // How many entries the two tables have, by the counts of the sets.
 ghost use mathlib.Core.Path.{_≡_};
 ghost use Prim.Native.Nat.{_+_, _*_, _^_, _<_, _≤_};
-ghost use lib.ListN.{length, getD};
+ghost use lib.ListN.{getD};
 ghost use Rattle.chains.specs.Limits.{max-members, max-kids, max-prods};
 ghost use Rattle.book.specs.Format.{grammar};
 ghost use Rattle.ranks.specs.Entries.{choices};

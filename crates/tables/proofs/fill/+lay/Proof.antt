@@ -27,11 +27,11 @@ abbrev lay-below : ℕ → In 6 lay-kinds.ps
 lay-below t = and 6 lay-kinds.ps (falls 6 lay-kinds.ps _<_ μ-lay t) lay.Pre
 
 abbrev lay-Inv-loop : lay-lts.InvT-loop
-lay-Inv-loop table v slot s sets counts ranked sizes out₀ at n t₀ to₀ r₀ out t to r =
+lay-Inv-loop table v slot s sets counts ranked sizes out₀ at n to₀ r₀ out to r =
     Blocks (entry-size table) (choices counts (kinds-from v (suc slot))) n (Choices table v slot sets counts ranked sizes (kinds-from v slot) s) out₀ at out to r
 
 abbrev lay-μ-loop : lay-lts.MeasureT-loop
-lay-μ-loop table v slot s sets counts ranked sizes out₀ at n t₀ to₀ r₀ out t to r = n - r
+lay-μ-loop table v slot s sets counts ranked sizes out₀ at n to₀ r₀ out to r = n - r
 
 module _ (t : ℕ) where
   put-entry-requires : lay-lts.Need-put-entry-requires (put-entry-reads.Asked, put-entry-reads.Learnt, members-on-reads.Asked, members-on-reads.Learnt, tie-member-reads.Asked, tie-member-reads.Learnt, lay-below t, lay.Post) (lay-at t) lay.Post lay-Inv-loop lay-μ-loop
@@ -53,17 +53,17 @@ module _ (t : ℕ) where
 
   tie-member-requires : lay-lts.Need-tie-member-requires (put-entry-reads.Asked, put-entry-reads.Learnt, members-on-reads.Asked, members-on-reads.Learnt, tie-member-reads.Asked, tie-member-reads.Learnt, lay-below t, lay.Post) (lay-at t) lay.Post lay-Inv-loop lay-μ-loop
   tie-member-requires c κs =
-      let h = c .before .before .before .before .before .before .before .before .before .before .before .pre .1 in
-      let l = c .before .before .before .before .if1 .left in
-      (h .standing .sized, h .standing .ready, l, turn-placed h l (c .before .before .before .members-on .ensures) (c .before .loop-test .taken))
+      let h = c .before .before .before .before .before .before .before .before .before .before .pre .1 in
+      let l = c .before .before .before .if1 .left in
+      (h .standing .sized, h .standing .ready, l, turn-placed h l (c .before .before .members-on .ensures) (c .loop-test .taken))
 
   add-lay : lay-lts.Need-add-lay (put-entry-reads.Asked, put-entry-reads.Learnt, members-on-reads.Asked, members-on-reads.Learnt, tie-member-reads.Asked, tie-member-reads.Learnt, lay-below t, lay.Post) (lay-at t) lay.Post lay-Inv-loop lay-μ-loop
   add-lay c = omega arith
 
   lay-requires : lay-lts.Need-lay-requires (put-entry-reads.Asked, put-entry-reads.Learnt, members-on-reads.Asked, members-on-reads.Learnt, tie-member-reads.Asked, tie-member-reads.Learnt, lay-below t, lay.Post) (lay-at t) lay.Post lay-Inv-loop lay-μ-loop
   lay-requires c κs =
-      let o = c .before .before .before .before .before .before .before .before .before .before .before .before .before .before .pre in
-      (omega (arith, o .0), turn-asks (o .1) (c .before .before .before .before .before .before .before .if1 .left) (c .before .before .before .before .before .before .members-on .ensures) (c .before .before .before .before .before .loop .inv) (c .before .before .before .before .loop-test .taken) (c .before .before .tie-member .ensures))
+      let o = c .before .before .before .before .before .before .before .before .before .before .before .before .before .pre in
+      (omega (arith, o .0), turn-asks (o .1) (c .before .before .before .before .before .before .if1 .left) (c .before .before .before .before .before .members-on .ensures) (c .before .before .before .before .loop .inv) (c .before .before .before .loop-test .taken) (c .before .before .tie-member .ensures))
 
   add-r : lay-lts.Need-add-r (put-entry-reads.Asked, put-entry-reads.Learnt, members-on-reads.Asked, members-on-reads.Learnt, tie-member-reads.Asked, tie-member-reads.Learnt, lay-below t, lay.Post) (lay-at t) lay.Post lay-Inv-loop lay-μ-loop
   add-r c = omega arith
@@ -72,7 +72,7 @@ module _ (t : ℕ) where
   loop-less c = omega arith
 
   loop-again : lay-lts.Need-loop-again (put-entry-reads.Asked, put-entry-reads.Learnt, members-on-reads.Asked, members-on-reads.Learnt, tie-member-reads.Asked, tie-member-reads.Learnt, lay-below t, lay.Post) (lay-at t) lay.Post lay-Inv-loop lay-μ-loop
-  loop-again c = turn-next (c .before .before .before .before .before .before .before .before .before .before .before .before .before .before .before .before .before .pre .1) (c .before .before .before .before .before .before .before .before .before .before .if1 .left) (c .before .before .before .before .before .before .before .before .before .members-on .ensures) (c .before .before .before .before .before .before .before .before .loop .inv) (c .before .before .before .before .before .before .before .loop-test .taken) (c .before .before .before .before .before .tie-member .ensures) (c .before .before .lay .ensures)
+  loop-again c = turn-next (c .before .before .before .before .before .before .before .before .before .before .before .before .before .before .before .before .pre .1) (c .before .before .before .before .before .before .before .before .before .if1 .left) (c .before .before .before .before .before .before .before .before .members-on .ensures) (c .before .before .before .before .before .before .before .loop .inv) (c .before .before .before .before .before .before .loop-test .taken) (c .before .before .before .before .before .tie-member .ensures) (c .before .before .lay .ensures)
 
   same-length-2 : lay-lts.Need-same-length-2 (put-entry-reads.Asked, put-entry-reads.Learnt, members-on-reads.Asked, members-on-reads.Learnt, tie-member-reads.Asked, tie-member-reads.Learnt, lay-below t, lay.Post) (lay-at t) lay.Post lay-Inv-loop lay-μ-loop
   same-length-2 c = c .before .loop .inv .laid .long
