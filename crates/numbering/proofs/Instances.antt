@@ -6,10 +6,17 @@ use native.Mathlib.Omega.{arith}
 use lib.ListN.{length, getD, take, drop}
 use Rattle.lists.specs.Part.{part}
 use Rattle.chains.specs.Grammar.{Grammar}
+use Rattle.book.specs.Format.{grammar}
 use Rattle.sheet.specs.Reading.{settings-of}
 use Rattle.numbering.specs.Walk.{tables, Held, held, numbered, unused, slot-labels, kid-labels, own-held}
-use Rattle.numbering.specs.Giving.{labels-known, Holding, Held-own, Written, Family, Instance}
+use Rattle.numbering.specs.Giving.{labels-known, Holding, Held-own, Written, Family, Ready, Instance}
 use Rattle.numbering.proofs.Holders.{holding-none}
+use Rattle.numbering.proofs.Trees.{settings-inside}
+
+-- the node's own settings stand within the room
+pub ready-fits : {b places l ends firsts : List ℕ} {i next : ℕ} {g : List ℕ} {width : ℕ} → Ready b places l ends firsts i next g → width ≡ grammar b .settings (grammar b .left (getD l i 0))
+    → getD firsts i 0 + width ≤ length g
+ready-fits {b} {places} {l} {ends} {firsts} {i} r e = omega (arith, r .places-are .each i (r .there), settings-inside (grammar b) l i (r .there), r .room)
 
 module _ {G : Grammar} {l w : List ℕ} {e p : ℕ} {ends : List ℕ} {i s first width at : ℕ} {stamps numbers g stamps₁ numbers₁ stamps₂ numbers₂ g₂ : List ℕ} {r : ℕ}
     (ls : length stamps ≡ labels-known) (ln : length numbers ≡ labels-known) (es : s ≡ i + 2) (ep : p ≡ getD l i 0)

@@ -18,6 +18,7 @@ use Rattle.chains.proofs.Range.{root-in}
 use Rattle.chains.proofs.Nodes.{parent, sub-in, sub-child}
 use Rattle.chains.proofs.WellKinded.{sub-kinded, root-kids, root-kind, one-tree}
 use Rattle.book.specs.Format.{grammar, prods}
+use Rattle.book.specs.Reading.{Index}
 use Rattle.bookcheck.proofs.Accepted.{Accepted}
 use Rattle.sheet.specs.Reading.{settings-of}
 use Rattle.sheet.proofs.Reading.{settings-next}
@@ -25,7 +26,7 @@ use Rattle.numbering.specs.Walk.{Tables, tables, numbered, unused, slot-
 use Rattle.numbering.specs.Promise.{TreeOf}
 use Rattle.numbering.specs.Visits.{Visit, nowhere, entry-in, held-in, labels-in, handed, after, journey, visit}
 use Rattle.numbering.specs.Parts.{Sheeted, child-at, Children, Ended}
-use Rattle.numbering.specs.Giving.{labels-known, Holding, Firsts, Slot, kinds-width, Written, Kinds, Instance, Entered, Walkable, Given}
+use Rattle.numbering.specs.Giving.{labels-known, Holding, Firsts, Slot, kinds-width, Written, Kinds, Ready, Instance, Entered, Walkable, Given}
 use Rattle.numbering.proofs.Labelled.{numbered-long, slot-labels-long}
 use Rattle.numbering.proofs.Holders.{holding-none}
 use Rattle.numbering.proofs.Visits.{owns-of, owns-append, Linked, linked-rises}
@@ -169,14 +170,14 @@ module _ {b l w ends entries g₀ stamps numbers g : List ℕ} {next i : ℕ} (k
     ended-here : Ended (node .below) (suc i) 0 ends
     ended-here = ended-below (walkable .tree-of .tree) (node .below) i (getD l i 0) 0 ends (node .is-node) (omega arith) (walkable .ended)
 
-    pub walking-known : getD l i 0 < prods b
+    walking-known : getD l i 0 < prods b
     walking-known = node .known
 
-    pub walking-children : Children ends i (length (grammar b .kids (getD l i 0)))
+    walking-children : Children ends i (length (grammar b .kids (getD l i 0)))
     walking-children = children-of ends i (node .below) ended-here (grammar b) (grammar b .kids (getD l i 0)) (node .kinded)
         (acc .lawful .few-kids (getD l i 0) (node .known)) (omega (arith, node .inside, k .few))
 
-    pub walking-kinds : Kinds (grammar b) l ends i (getD l i 0)
+    walking-kinds : Kinds (grammar b) l ends i (getD l i 0)
     walking-kinds = record {
       there = λ j h. omega (arith, root-in (node .below) (suc i) j (child-at ends i j) (root j h), node .inside);
       kind = λ j h.
@@ -188,7 +189,7 @@ module _ {b l w ends entries g₀ stamps numbers g : List ℕ} {next i : ℕ} (k
         root : (j : ℕ) → j < length (grammar b .kids (getD l i 0)) → Root (node .below) (suc i) j (child-at ends i j)
         root j h = child-root ends i (node .below) ended-here (grammar b) (grammar b .kids (getD l i 0)) (node .kinded) j h
 
-    pub walking-low : next ≤ max-settings * max-nodes
+    walking-low : next ≤ max-settings * max-nodes
     walking-low =
         let t = walkable .tree-of in
         let T = tables (walkable .counts) (walkable .feasible-counts) (walkable .up) w in
@@ -198,6 +199,18 @@ module _ {b l w ends entries g₀ stamps numbers g : List ℕ} {next i : ℕ} (k
         let all : settings-of (grammar b) (flat (t .tree)) ≡ settings-of (grammar b) l = ap (settings-of (grammar b)) (t .reads) in
         let most = settings-few (grammar b) max-settings l (λ m h. few-settings acc (getD l m 0) (node-at t m h .known)) in
         omega (arith, k .few)
+
+    pub walking-ready : {places firsts : List ℕ} → Index b places → Firsts (grammar b) l firsts → Ready b places l ends firsts i next g
+    walking-ready index firsts-are = record {
+      indexed = record { accepted = acc; index = index };
+      there = more;
+      known = walking-known;
+      low = walking-low;
+      children = walking-children;
+      kinds-are = walking-kinds;
+      places-are = firsts-are;
+      room = omega (arith, k .room, k .long);
+    }
 
   pub walking-turn : {e : ℕ} {stamps′ numbers′ g′ : List ℕ} {r : ℕ} → i < length l → e ≡ getD entries i 0
       → Instance (grammar b) l w e ends i next stamps numbers g stamps′ numbers′ g′ r → Walking b l w ends entries g₀ stamps′ numbers′ g′ r (i + 1)

@@ -16,6 +16,9 @@ wide-below l f = omega (arith, l, f)
 pub next-byte : {j k : ℕ} → j < k → k < 256 → Fits w8 (j + 1)
 next-byte l f = omega (arith, l, f)
 
+pub next-most : {j k m : ℕ} → j < k → k ≤ m → j + 1 ≤ m
+next-most l f = omega (arith, l, f)
+
 pub less-left : {j k : ℕ} → j < k → k - (j + 1) < k - j
 less-left l = omega (arith, l)
 
@@ -35,6 +38,9 @@ place-eight l = omega (arith, l)
 pub place-word : {i : ℕ} → i ≤ max-nodes → Fits w16 i
 place-word l = omega (arith, l)
 
+pub place-word-2 : {i : ℕ} → i < max-nodes → Fits w16 (i + 2)
+place-word-2 l = omega (arith, l)
+
 -- a production's
 pub prod-wide : {p : ℕ} → p < max-prods → Fits w64 p
 prod-wide l = omega (arith, l)
@@ -51,9 +57,6 @@ below l h = omega (arith, l, h)
 
 pub at-most : {i n : ℕ} → i < n → i ≤ n
 at-most l = omega (arith, l)
-
-pub fits-kept : {s n m : ℕ} → s ≤ n → m ≡ n → s ≤ m
-fits-kept l e = omega (arith, l, e)
 
 -- no number is given before the root's
 pub first-numbers : {w : ℕ} → w ≤ max-settings → 0 + w < 65536

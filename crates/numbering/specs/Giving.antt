@@ -6,15 +6,15 @@ use Prim.Native.Nat.{ℕ, zero, suc, _+_, _*_, _≤_, _<_}
 use lib.ListN.{length, getD, take, drop}
 use Rattle.lists.specs.Pick.{pick}
 use Rattle.lists.specs.Part.{part, place}
-use Rattle.chains.specs.Limits.{max-nodes}
+use Rattle.chains.specs.Limits.{max-settings, max-nodes}
 use Rattle.chains.specs.Grammar.{Grammar}
 use Rattle.chains.specs.Tree.{Bush, size}
-use Rattle.book.specs.Format.{grammar}
+use Rattle.book.specs.Format.{prods, grammar}
 use Rattle.sheet.specs.Reading.{settings-of}
 use Rattle.numbering.specs.Walk.{Tables, tables, Held, holder, holds, held, numbered, unused, slot-labels, kid-labels, own-held, group-numbers}
 use Rattle.numbering.specs.Promise.{TreeOf, lent, Grouped}
 use Rattle.numbering.specs.Visits.{entry-in, visit}
-use Rattle.numbering.specs.Parts.{Ended, child-at, Chosen}
+use Rattle.numbering.specs.Parts.{Indexed, Children, Ended, child-at, Chosen}
 
 -- the three places of each of n nodes, from node i on
 unfoldable pub rows : List ℕ → List ℕ → List ℕ → ℕ → ℕ → List ℕ
@@ -91,6 +91,17 @@ pub record Family (G : Grammar) (l w : List ℕ) (e p : ℕ) (ends : List ℕ) (
       → ((j : ℕ) → j < length (G .kids p) → F (child-at ends i j) ≡ part (kinds-width G (take j (G .kids p))) (G .settings (getD (G .kids p) j 0)) (numbered hs next xs))
       → ((m : ℕ) → m < length l → Written G l g m (F m) → Written G l g′ m (F m))
       × ((j : ℕ) → j < length (G .kids p) → Written G l g′ (child-at ends i j) (F (child-at ends i j))))
+
+-- what the visit of node i needs: the node, its children, where all settings stand, and room for them
+pub record Ready (b places l ends firsts : List ℕ) (i next : ℕ) (g : List ℕ) : Type 0 where
+  pub indexed : Indexed b places
+  pub there : i < length l
+  pub known : getD l i 0 < prods b
+  pub low : next ≤ max-settings * max-nodes
+  pub children : Children ends i (length (grammar b .kids (getD l i 0)))
+  pub kinds-are : Kinds (grammar b) l ends i (getD l i 0)
+  pub places-are : Firsts (grammar b) l firsts
+  pub room : settings-of (grammar b) l ≤ length g
 
 -- node i is visited: its own settings hold their labels, then its children's settings are numbered; F m are the numbers that node m is to have
 pub record Instance (G : Grammar) (l w : List ℕ) (e : ℕ) (ends : List ℕ) (i next : ℕ) (stamps numbers g stamps′ numbers′ g′ : List ℕ) (r : ℕ) : Type 0 where

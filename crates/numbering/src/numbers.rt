@@ -2,12 +2,12 @@
 // The first holder of each label is kept in an array by label. A stamp says for which node it holds, so that nothing is cleared from node to node.
 ghost use mathlib.Core.Path.{_≡_};
 ghost use Prim.Native.Nat.{_+_, _*_, _≤_, _<_};
-ghost use lib.ListN.{length, getD};
+ghost use lib.ListN.{length};
 ghost use Rattle.chains.specs.Limits.{max-kids, max-settings, max-nodes};
 ghost use Rattle.book.specs.Format.{prods, grammar};
 ghost use Rattle.sheet.specs.Reading.{settings-of};
-ghost use Rattle.numbering.specs.Parts.{Indexed, Sheeted, Children};
-ghost use Rattle.numbering.specs.Giving.{labels-known, Firsts, Held-one, Held-own, Slot, Kinds, Instance, Walkable, Given};
+ghost use Rattle.numbering.specs.Parts.{Indexed, Sheeted};
+ghost use Rattle.numbering.specs.Giving.{labels-known, Firsts, Held-one, Held-own, Slot, Ready, Instance, Walkable, Given};
 use super::limits::LABELS;
 use super::limits::NODES;
 use super::limits::PRODUCTIONS;
@@ -129,9 +129,7 @@ fn number_node(
     held: &mut [u16; LABELS],
     groups: &mut [u16],
 ) -> u16
-    requires { ⌜ Indexed (now book) (now places) × (i < length (now sheet)) × (getD (now sheet) i 0 < prods (now book)) × (first ≤ max-settings * max-nodes)
-        × Children (now ends) i (length (grammar (now book) .kids (getD (now sheet) i 0))) × Kinds (grammar (now book)) (now sheet) (now ends) i (getD (now sheet) i 0)
-        × Firsts (grammar (now book)) (now sheet) (now firsts) × (settings-of (grammar (now book)) (now sheet) ≤ length (now groups))
+    requires { ⌜ Ready (now book) (now places) (now sheet) (now ends) (now firsts) i first (now groups)
         × (length (now ends) ≡ max-nodes) × (length (now firsts) ≡ max-nodes) × (length (now stamps) ≡ labels-known) × (length (now held) ≡ labels-known) ⌝ }
     ensures { λ r. ⌜ Instance (grammar (now (book .entry))) (now (sheet .entry)) (now (down .entry)) entry (now (ends .entry)) i first
         (now (stamps .entry)) (now (held .entry)) (now (groups .entry)) (now (stamps .exit)) (now (held .exit)) (now (groups .exit)) r ⌝ }

@@ -5,9 +5,9 @@ use borrow.Author.Needs.{needs}
 use lib.ListN.{length}
 use Rattle.book.specs.Format.{grammar}
 use Rattle.numbering.specs.Giving.{Firsts}
-use Rattle.numbering.proofs.Words.{less-left, place-after, place-eight, below, fits-kept, first-numbers}
+use Rattle.numbering.proofs.Words.{less-left, place-after, place-eight, below, first-numbers}
 use Rattle.numbering.proofs.Trees.{node-at, root-inside}
-use Rattle.numbering.proofs.Walking.{Walking, walking-begins, beyond-root, walking-known, walking-low, walking-children, walking-kinds, walking-turn, walking-done}
+use Rattle.numbering.proofs.Walking.{Walking, walking-begins, beyond-root, walking-ready, walking-turn, walking-done}
 use Rattle.numbering.proofs.numbers.number_all.Statement.{statement}
 use Rattle.numbering.proofs.numbers.number_all.Tie as tie
 use Rattle.numbering.proofs.numbers.number_all.Reads as reads
@@ -56,20 +56,8 @@ number-node-requires c κs =
     let s = c .before .before .before .before .before .before .before .before .before .before .before .before .before .before .before .before .before .before .before .before .before in
     let k = c .before .before .before .before .before .before .loop .inv .0 in
     let t = c .before .before .before .before .before .loop-test .taken in
-    let a = s .pre .0 .accepted in (
-      s .pre .0,
-      t,
-      walking-known k (s .pre .2) a t,
-      walking-low k (s .pre .2) a t,
-      walking-children k (s .pre .2) a t,
-      walking-kinds k (s .pre .2) a t,
-      c .before .before .before .before .before .before .loop .inv .1,
-      fits-kept (k .room) (k .long),
-      s .pre .4,
-      c .before .before .before .before .before .before .loop .inv .1 .long,
-      k .stamps-long,
-      k .numbers-long,
-    )
+    let f = c .before .before .before .before .before .before .loop .inv .1 in
+    (walking-ready k (s .pre .2) (s .pre .0 .accepted) t (s .pre .0 .index) f, s .pre .4, f .long, k .stamps-long, k .numbers-long)
 
 add-i : tie.Need-add-i Inv-loop μ-loop
 add-i c = place-after (below (c .before .before .before .before .before .before .before .before .loop-test .taken) (c .before .before .before .before .before .before .before .before .before .loop .inv .0 .few))

@@ -1,13 +1,10 @@
 -- A node's own settings hold their labels; then its children, one after another.
 use mathlib.Core.Path.{refl, _∙_}
 use Prim.Native.Nat.{_-_}
-use native.Mathlib.Omega.{arith}
-use Rattle.book.specs.Format.{grammar}
-use Rattle.numbering.proofs.Words.{next-byte, less-left, place-after, place-twice, place-wide}
+use Rattle.numbering.proofs.Words.{next-byte, next-most, less-left, place-after, place-twice, place-wide, place-word, place-word-2, prod-wide, prod-eight, below, at-most}
 use Rattle.numbering.proofs.Children.{opened, end-low}
-use Rattle.numbering.proofs.Trees.{settings-inside}
 use Rattle.numbering.proofs.Families.{Naming, naming-none, naming-inside, naming-narrow, naming-fits, naming-low, naming-turn, naming-done}
-use Rattle.numbering.proofs.Instances.{instance}
+use Rattle.numbering.proofs.Instances.{ready-fits, instance}
 use Rattle.numbering.proofs.numbers.number_node.Statement.{statement}
 use Rattle.numbering.proofs.numbers.number_node.Tie as tie
 use Rattle.numbering.proofs.numbers.number_node.Reads as reads
@@ -27,50 +24,50 @@ abbrev μ-loop : tie.MeasureT-loop
 μ-loop book places sheet down entry ends firsts i first stamps₀ held₀ groups₀ p stamp place kids next₀ child₀ j₀ stamps held groups next child j = kids - j
 
 shared-slice-read-p : tie.Need-shared-slice-read-p Inv-loop μ-loop
-shared-slice-read-p c = c .before .before .before .before .before .pre .1
+shared-slice-read-p c = c .before .before .before .before .before .pre .0 .there
 
 cast-stamp : tie.Need-cast-stamp Inv-loop μ-loop
-cast-stamp c = omega (arith, c .before .before .before .before .before .pre .4 .inside)
+cast-stamp c = place-word (at-most (c .before .before .before .before .before .pre .0 .children .inside))
 
 add-stamp : tie.Need-add-stamp Inv-loop μ-loop
-add-stamp c = omega (arith, c .before .before .before .before .before .pre .4 .inside)
+add-stamp c = place-word-2 (c .before .before .before .before .before .pre .0 .children .inside)
 
 own-width-requires : tie.Need-own-width-requires Inv-loop μ-loop
-own-width-requires c κs = (c .before .before .before .before .before .pre .0, c .before .before .before .before .before .pre .2)
+own-width-requires c κs = (c .before .before .before .before .before .pre .0 .indexed, c .before .before .before .before .before .pre .0 .known)
 
 mul-hold-own : tie.Need-mul-hold-own Inv-loop μ-loop
-mul-hold-own c = place-twice (c .before .before .before .before .before .before .pre .4 .inside)
+mul-hold-own c = place-twice (c .before .before .before .before .before .before .pre .0 .children .inside)
 
 element-copy-out-hold-own : tie.Need-element-copy-out-hold-own Inv-loop μ-loop
-element-copy-out-hold-own c = c .before .before .before .before .before .before .pre .4 .inside
+element-copy-out-hold-own c = c .before .before .before .before .before .before .pre .0 .children .inside
 
 hold-own-requires : tie.Need-hold-own-requires Inv-loop μ-loop
 hold-own-requires c κs =
     let s = c .before .before .before .before .before .before .before .before .before .before in
     let w = c .before .before .before .before .own-width .ensures in
-    let a = s .pre .6 .each _ (s .pre .1) in
-    (w .1, omega (arith, w .0, a, settings-inside (grammar (s .args .book .now)) (s .args .sheet .now) (s .args .i) (s .pre .1), s .pre .7), s .pre .10, s .pre .11)
+    (w .1, ready-fits (s .pre .0) (w .0), s .pre .3, s .pre .4)
 
 cast-place : tie.Need-cast-place Inv-loop μ-loop
-cast-place c = omega (arith, c .before .before .before .before .before .before .before .before .before .before .before .pre .2, c .before .before .before .before .before .before .before .before .before .before .before .pre .0 .accepted .few-prods)
+cast-place c = prod-wide (below (c .before .before .before .before .before .before .before .before .before .before .before .pre .0 .known) (c .before .before .before .before .before .before .before .before .before .before .before .pre .0 .indexed .accepted .few-prods))
 
 mul-place : tie.Need-mul-place Inv-loop μ-loop
-mul-place c = omega (arith, c .before .before .before .before .before .before .before .before .before .before .before .pre .2, c .before .before .before .before .before .before .before .before .before .before .before .pre .0 .accepted .few-prods)
+mul-place c = prod-eight (below (c .before .before .before .before .before .before .before .before .before .before .before .pre .0 .known) (c .before .before .before .before .before .before .before .before .before .before .before .pre .0 .indexed .accepted .few-prods))
 
 element-copy-out-place : tie.Need-element-copy-out-place Inv-loop μ-loop
-element-copy-out-place c = omega (arith, c .before .before .before .before .before .before .before .before .before .before .before .pre .2, c .before .before .before .before .before .before .before .before .before .before .before .pre .0 .accepted .few-prods)
+element-copy-out-place c = below (c .before .before .before .before .before .before .before .before .before .before .before .pre .0 .known) (c .before .before .before .before .before .before .before .before .before .before .before .pre .0 .indexed .accepted .few-prods)
 
 arity-requires : tie.Need-arity-requires Inv-loop μ-loop
 arity-requires c κs = tt
 
 add-child : tie.Need-add-child Inv-loop μ-loop
-add-child c = place-after (c .before .before .before .before .before .before .before .before .before .before .before .before .before .pre .4 .inside)
+add-child c = place-after (c .before .before .before .before .before .before .before .before .before .before .before .before .before .pre .0 .children .inside)
 
 loop-holds : tie.Need-loop-holds Inv-loop μ-loop
 loop-holds c =
     let s = c .before .before .before .before .before .before .before .before .before .before .before .before .before in
+    let r = s .pre .0 in
     let o = c .before .before .hold-own .ensures in
-    naming-none (opened (s .pre .0) (s .pre .2) refl (c .arity .ensures)) (s .pre .4) (s .pre .5) (s .pre .6) (s .pre .3) (s .pre .7) (o .stamps-kept ∙ s .pre .10) (o .numbers-kept ∙ s .pre .11)
+    naming-none (opened (r .indexed) (r .known) refl (c .arity .ensures)) (r .children) (r .kinds-are) (r .places-are) (r .low) (r .room) (o .stamps-kept ∙ s .pre .3) (o .numbers-kept ∙ s .pre .4)
 
 add-number-slot : tie.Need-add-number-slot Inv-loop μ-loop
 add-number-slot c = next-byte (c .loop-test .taken) (c .before .before .arity .ok)
@@ -93,7 +90,7 @@ number-slot-requires c κs =
     let t = c .before .before .before .before .before .before .loop-test .taken in
     let ex = c .before .before .before .before .before .kid .ensures in
     let ew = c .before .before .before .before .settings .ensures in
-    (omega (arith, n .opened .few), naming-narrow n t ex ew refl, naming-fits n t ex ew refl, naming-low n t ex ew refl, n .stamps-long, n .numbers-long)
+    (next-most t (n .opened .few), naming-narrow n t ex ew refl, naming-fits n t ex ew refl, naming-low n t ex ew refl, n .stamps-long, n .numbers-long)
 
 mul-child : tie.Need-mul-child Inv-loop μ-loop
 mul-child c = place-twice (naming-inside (c .before .before .before .before .before .before .before .before .before .before .loop .inv) (c .before .before .before .before .before .before .before .before .before .loop-test .taken))
@@ -119,7 +116,7 @@ same-length c = c .before .loop .inv .long
 returns : tie.Need-returns Inv-loop μ-loop
 returns c =
     let s = c .before .before .before .before .before .before .before .before .before .before .before .before .before .before .before in
-    instance (s .pre .10) (s .pre .11) refl refl (c .before .before .before .before .before .before .before .before .before .own-width .ensures .0) (s .pre .6 .each _ (s .pre .1)) (c .before .before .before .before .hold-own .ensures) (naming-done (c .before .loop .inv) (c .loop-test .left))
+    instance (s .pre .3) (s .pre .4) refl refl (c .before .before .before .before .before .before .before .before .before .own-width .ensures .0) (s .pre .0 .places-are .each _ (s .pre .0 .there)) (c .before .before .before .before .hold-own .ensures) (naming-done (c .before .loop .inv) (c .loop-test .left))
 
 pub number-node-spec : {M : Type 1} → statement M
 number-node-spec =
