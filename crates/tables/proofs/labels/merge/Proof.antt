@@ -1,6 +1,7 @@
 -- Two groups made one. Assumes nothing.
-use borrow.Author.Needs.{needs}
 use mathlib.Core.Path.{sym}
+use native.Mathlib.Omega.{arith}
+use borrow.Author.Needs.{needs}
 use Rattle.tables.proofs.StateLoops.{join-same}
 use Rattle.tables.proofs.labels.merge.Statement.{statement}
 use Rattle.tables.proofs.labels.merge.Tie as tie
@@ -18,7 +19,9 @@ returns : tie.Need-returns
 returns c = search needs
 
 returns-2 : tie.Need-returns-2
-returns-2 c = sym (join-same (c .before .before .before .args .s .now) _ _ (c .if1 .left))
+returns-2 c =
+    let o = c .before .before .before .args in
+    sym (join-same (o .s .now) (o .i) (o .j) (omega (arith, c .if1 .left)))
 
 pub merge-spec : {M : Type 1} → statement M
 merge-spec =
