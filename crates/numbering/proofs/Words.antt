@@ -38,9 +38,6 @@ place-eight l = omega (arith, l)
 pub place-word : {i : ℕ} → i ≤ max-nodes → Fits w16 i
 place-word l = omega (arith, l)
 
-pub place-word-2 : {i : ℕ} → i < max-nodes → Fits w16 (i + 2)
-place-word-2 l = omega (arith, l)
-
 -- a production's
 pub prod-wide : {p : ℕ} → p < max-prods → Fits w64 p
 prod-wide l = omega (arith, l)

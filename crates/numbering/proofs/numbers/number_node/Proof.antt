@@ -1,7 +1,8 @@
 -- A node's own settings hold their labels; then its children, one after another.
 use mathlib.Core.Path.{refl, _∙_}
 use Prim.Native.Nat.{_-_}
-use Rattle.numbering.proofs.Words.{next-byte, next-most, less-left, place-after, place-twice, place-wide, place-word, place-word-2, prod-wide, prod-eight, below, at-most}
+use native.Mathlib.Omega.{arith}
+use Rattle.numbering.proofs.Words.{next-byte, next-most, less-left, place-after, place-twice, place-wide, prod-wide, prod-eight, below}
 use Rattle.numbering.proofs.Children.{opened, end-low}
 use Rattle.numbering.proofs.Families.{Naming, naming-none, naming-inside, naming-narrow, naming-fits, naming-low, naming-turn, naming-done}
 use Rattle.numbering.proofs.Instances.{ready-fits, instance}
@@ -27,10 +28,10 @@ shared-slice-read-p : tie.Need-shared-slice-read-p Inv-loop μ-loop
 shared-slice-read-p c = c .before .before .before .before .before .pre .0 .there
 
 cast-stamp : tie.Need-cast-stamp Inv-loop μ-loop
-cast-stamp c = place-word (at-most (c .before .before .before .before .before .pre .0 .children .inside))
+cast-stamp c = omega (arith, c .before .before .before .before .before .pre .0 .children .inside, c .before .before .before .before .before .pre .0 .known, c .before .before .before .before .before .pre .0 .indexed .accepted .few-prods)
 
 add-stamp : tie.Need-add-stamp Inv-loop μ-loop
-add-stamp c = place-word-2 (c .before .before .before .before .before .pre .0 .children .inside)
+add-stamp c = omega (arith, c .before .before .before .before .before .pre .0 .children .inside, c .before .before .before .before .before .pre .0 .known, c .before .before .before .before .before .pre .0 .indexed .accepted .few-prods)
 
 own-width-requires : tie.Need-own-width-requires Inv-loop μ-loop
 own-width-requires c κs = (c .before .before .before .before .before .pre .0 .indexed, c .before .before .before .before .before .pre .0 .known)
@@ -116,7 +117,7 @@ same-length c = c .before .loop .inv .long
 returns : tie.Need-returns Inv-loop μ-loop
 returns c =
     let s = c .before .before .before .before .before .before .before .before .before .before .before .before .before .before .before in
-    instance (s .pre .3) (s .pre .4) refl refl (c .before .before .before .before .before .before .before .before .before .own-width .ensures .0) (s .pre .0 .places-are .each _ (s .pre .0 .there)) (c .before .before .before .before .hold-own .ensures) (naming-done (c .before .loop .inv) (c .loop-test .left))
+    instance {i = s .args .i} (s .pre .3) (s .pre .4) (omega arith) refl (c .before .before .before .before .before .before .before .before .before .own-width .ensures .0) (s .pre .0 .places-are .each _ (s .pre .0 .there)) (c .before .before .before .before .hold-own .ensures) (naming-done (c .before .loop .inv) (c .loop-test .left))
 
 pub number-node-spec : {M : Type 1} → statement M
 number-node-spec =
