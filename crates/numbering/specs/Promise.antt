@@ -10,9 +10,10 @@ use Rattle.lists.specs.Refusals.{Said, accepted, refused, First}
 use Rattle.chains.specs.Limits.{max-members}
 use Rattle.chains.specs.Grammar.{Grammar}
 use Rattle.chains.specs.Tree.{Bush, Kinded, flat, Sub}
-use Rattle.book.specs.Format.{kinds, grammar}
+use Rattle.book.specs.Format.{grammar}
 use Rattle.sheet.specs.Reading.{settings-of}
 use Rattle.sheet.specs.Refusals as sheet
+use Rattle.admission.specs.Refusals.{ShortCounts, ShortRoom}
 use Rattle.ranks.specs.Entries.{up-entry, entry-bytes, none}
 use Rattle.numbering.specs.Walk.{Tables, ranks, given, places, started, group-numbers}
 
@@ -56,8 +57,8 @@ entry-at G T f i = getD (places G T f (started G T f)) (3 * i + 2) 0
 -- Applies b l T m n p t: refusal n has its condition met at the place p, looked for at the turn t among those of its number
 pub data Applies (b l : List ℕ) (T : Tables) (m : Lent) : ℕ → ℕ → ℕ → Type 0 where
   of-sheet : {n p : ℕ} → sheet.Applies b l n p → Applies b l T m n p p
-  short-counts : (length (T .plausible-counts) < kinds b) ⊎ (length (T .feasible-counts) < kinds b) → Applies b l T m 9 0 0
-  short-room : (length (m .nodes) < 3 * length l) ⊎ (length (m .groups) < settings-of (grammar b) l) → Applies b l T m 24 0 0
+  short-counts : ShortCounts b (length (T .plausible-counts)) (length (T .feasible-counts)) → Applies b l T m 9 0 0
+  short-room : ShortRoom b l (length (m .nodes)) (length (m .groups)) → Applies b l T m 24 0 0
   big-count : BigCount (grammar b) T → Applies b l T m 25 0 0
   bad-up : (t : TreeOf (grammar b) l) (i q : ℕ) (ds : Bush) → Sub (t .tree) 0 i q ds → BadUp (grammar b) T q ds → Applies b l T m 25 i (length l - i)
   bad-root : (t : TreeOf (grammar b) l) → BadRoot (grammar b) T (t .tree) → Applies b l T m 25 0 (length l + 1)
