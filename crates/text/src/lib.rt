@@ -2,6 +2,7 @@
 // costs no call of the system. The caller keeps the number of bytes held, and flushes what is left at the end.
 //
 // What goes out no contract can say; what stands in the buffer afterwards it does.
+ghost use mathlib.Core.Path.{_≡_};
 ghost use Prim.Native.Nat.{_+_, _<_};
 ghost use lib.ListN.{length};
 ghost use Rattle.text.specs.Held.{Put, PutDecimal};
@@ -9,13 +10,16 @@ ghost use Rattle.text.specs.Held.{Put, PutDecimal};
 // Digits of the largest number.
 const MOST_DIGITS: usize = 20;
 
-// Writes out what is held; no more than the buffer has.
-pub fn flush(fd: i32, out: &[u8], held: usize) {
+// Writes out what is held, no more than the buffer has, and answers how much is held then: nothing.
+pub fn flush(fd: i32, out: &[u8], held: usize) -> usize
+    ensures { λ r. ⌜ r ≡ 0 ⌝ }
+{
     if held <= out.len() {
         io::write_all(fd, &out[0..held]);
-    } else {
-        io::write_all(fd, out);
+        return 0;
     }
+    io::write_all(fd, out);
+    0
 }
 
 // Puts a word behind what is held, and answers how much is held then.
