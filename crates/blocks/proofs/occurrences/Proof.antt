@@ -3,7 +3,7 @@ use mathlib.Core.Path.{_≡_, sym, _∙_}
 use Prim.Native.Nat.{_-_, _≤_}
 use native.Mathlib.Omega.{arith}
 use borrow.Author.Needs.{needs}
-use Rattle.ranks.specs.Entries.{labels}
+use Rattle.ranks.specs.Entries.{labels, entry-bytes}
 use Rattle.ranks.specs.Reads.{label-at}
 use Rattle.blocks.proofs.BitSets.{Marked, marked-none, marked-more}
 use Rattle.blocks.proofs.Carried.{block-empty, block-full}
@@ -14,7 +14,7 @@ abbrev Inv-loop : tie.InvT-loop
 Inv-loop down entry label set₀ o₀ set o = (o ≤ labels) × Marked (λ i. label-at down entry i ≡ label) o set
 
 abbrev μ-loop : tie.MeasureT-loop
-μ-loop down entry label set₀ o₀ set o = labels - o
+μ-loop down entry label set₀ o₀ set o = entry-bytes - o
 
 returns : tie.Need-returns Inv-loop μ-loop
 returns c = block-empty (λ o h. h .labelled (c .if1 .taken))
