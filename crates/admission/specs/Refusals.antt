@@ -34,9 +34,13 @@ pub data Applies (b l : List ℕ) (m : Lengths) : ℕ → ℕ → Type 0 where
   short-counts : ShortCounts b (m .plausible-counts) (m .feasible-counts) → Applies b l m 9 0
   short-room : ShortRoom b l (m .nodes) (m .groups) → Applies b l m 24 0
 
--- rows go by number, then by place; 21 to 23 are sought together, by place and then by number
+-- rows go by number, but 21 to 23 are sought together
+abbrev pub stage : ℕ → ℕ
+stage n = pick (ltb n 21) n (pick (ltb n 24) 21 n)
+
+-- within a stage by place, then by number
 abbrev pub turn : (ℕ × ℕ) → List ℕ
-turn f = pick (ltb (f .0) 21) (f .0) (pick (ltb (f .0) 24) 21 (f .0)) ∷ f .1 ∷ f .0 ∷ []
+turn f = stage (f .0) ∷ f .1 ∷ f .0 ∷ []
 
 -- THE PROMISE of the admission: what it says of the sheet l against the book b with slices of these lengths; its counts are nodes and settings
 abbrev pub AdmissionDue : List ℕ → List ℕ → Lengths → Said → Type 0

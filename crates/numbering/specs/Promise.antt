@@ -3,9 +3,7 @@ use mathlib.Core.Path.{_≡_}
 use mathlib.Core.Logic.{_⊎_}
 use mathlib.Core.List.{List, [], _∷_, _++_}
 use Prim.Native.Nat.{ℕ, suc, _+_, _-_, _*_, _≤_, _<_}
-use lib.Dec.{ltb}
 use lib.ListN.{length, getD, drop}
-use Rattle.lists.specs.Pick.{pick}
 use Rattle.lists.specs.Refusals.{Said, accepted, refused, First}
 use Rattle.chains.specs.Limits.{max-members}
 use Rattle.chains.specs.Grammar.{Grammar}
@@ -13,7 +11,7 @@ use Rattle.chains.specs.Tree.{Bush, Kinded, flat, Sub}
 use Rattle.book.specs.Format.{grammar}
 use Rattle.sheet.specs.Reading.{settings-of}
 use Rattle.sheet.specs.Refusals as sheet
-use Rattle.admission.specs.Refusals.{ShortCounts, ShortRoom}
+use Rattle.admission.specs.Refusals.{ShortCounts, ShortRoom, stage}
 use Rattle.ranks.specs.Entries.{up-entry, entry-bytes, none}
 use Rattle.numbering.specs.Walk.{Tables, ranks, given, places, started, group-numbers}
 
@@ -70,7 +68,7 @@ abbrev pub Fault : Type 0
 Fault = ℕ × ℕ × ℕ
 
 abbrev pub turn : Fault → List ℕ
-turn f = pick (ltb (f .0) 21) (f .0) (pick (ltb (f .0) 24) 21 (f .0)) ∷ f .2 ∷ f .0 ∷ f .1 ∷ []
+turn f = stage (f .0) ∷ f .2 ∷ f .0 ∷ f .1 ∷ []
 
 -- THE PROMISE of a sheet call: what it says, and what it leaves of the memory m
 pub record Grouped (G : Grammar) (l : List ℕ) (T : Tables) (m m′ : Lent) (counts : List ℕ) : Type 0 where
