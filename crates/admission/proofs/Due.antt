@@ -7,7 +7,7 @@ use native.Mathlib.Omega.{arith}
 use lib.ListN.{length}
 use Rattle.lists.specs.Refusals.{accepted, refused, Sooner, First}
 use Rattle.book.specs.Format.{grammar}
-use Rattle.sheet.specs.Reading.{settings-of}
+use Rattle.sheet.specs.Reading.{all-settings}
 use Rattle.sheet.specs.Refusals as sheet
 use Rattle.admission.specs.Refusals.{Lengths, ShortCounts, ShortRoom, of-sheet, short-counts, short-room, turn, AdmissionDue}
 use Rattle.admission.proofs.Turns.{Row, sheets, counts, rooms, row, sheet-number, sooner-nine, sooner-room, before-nine, before-room, sooner-sheet}
@@ -47,7 +47,7 @@ module _ {b l : List ℕ} {m : Lengths} where
         before k q s (counts e f x) = long x
         before k q s (rooms e f x) = omega arith
 
-    pub due-nothing : (ShortRoom b l (m .nodes) (m .groups) → ⊥) → AdmissionDue b l m (accepted (length l ∷ settings-of (grammar b) l ∷ []))
+    pub due-nothing : (ShortRoom b l (m .nodes) (m .groups) → ⊥) → AdmissionDue b l m (accepted (length l ∷ all-settings (grammar b) l ∷ []))
     due-nothing wide = (refl, λ j x. go (j .0) (j .1) (row x))
       where
         go : (k q : ℕ) → Row b l m k q → ⊥

@@ -9,7 +9,8 @@ use lib.Dec.{ltb}
 use Rattle.lists.specs.Refusals.{accepted, refused, First}
 use Rattle.book.specs.Reading.{told}
 use Rattle.bookcheck.specs.Search.{Tells}
-use Rattle.bookcheck.proofs.Accepted.{Accepted, told-kinds}
+use Rattle.bookcheck.specs.Accepted.{Accepted}
+use Rattle.bookcheck.proofs.Accepted.{told-kinds}
 use Rattle.bookcheck.proofs.Answers.{tells-yes, tells-lt}
 use Rattle.bookcheck.proofs.Rows.{row-of-book}
 use Rattle.sheet.specs.Refusals as sheet

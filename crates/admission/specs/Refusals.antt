@@ -7,7 +7,7 @@ use lib.ListN.{length}
 use Rattle.lists.specs.Pick.{pick}
 use Rattle.lists.specs.Refusals.{Said, Due}
 use Rattle.book.specs.Format.{kinds, grammar}
-use Rattle.sheet.specs.Reading.{settings-of}
+use Rattle.sheet.specs.Reading.{all-settings}
 use Rattle.sheet.specs.Refusals as sheet
 
 -- the lengths of the slices that are lent: the two of counts, that of nodes and that of groups
@@ -26,7 +26,7 @@ ShortCounts b c d = (c < kinds b) ⊎ (d < kinds b)
 
 -- the node slice is shorter than three places per node, or the group slice than the settings
 abbrev pub ShortRoom : List ℕ → List ℕ → ℕ → ℕ → Type 0
-ShortRoom b l n g = (n < 3 * length l) ⊎ (g < settings-of (grammar b) l)
+ShortRoom b l n g = (n < 3 * length l) ⊎ (g < all-settings (grammar b) l)
 
 -- Applies b l m n p: refusal n has its condition met at the place p
 pub data Applies (b l : List ℕ) (m : Lengths) : ℕ → ℕ → Type 0 where
@@ -44,4 +44,4 @@ turn f = stage (f .0) ∷ f .1 ∷ f .0 ∷ []
 
 -- THE PROMISE of the admission: what it says of the sheet l against the book b with slices of these lengths; its counts are nodes and settings
 abbrev pub AdmissionDue : List ℕ → List ℕ → Lengths → Said → Type 0
-AdmissionDue b l m = Due turn (λ f. f .0) (λ f. f .1) (λ f. Applies b l m (f .0) (f .1)) (length l ∷ settings-of (grammar b) l ∷ [])
+AdmissionDue b l m = Due turn (λ f. f .0) (λ f. f .1) (λ f. Applies b l m (f .0) (f .1)) (length l ∷ all-settings (grammar b) l ∷ [])

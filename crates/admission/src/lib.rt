@@ -3,7 +3,7 @@
 ghost use mathlib.Core.List.{[], _∷_};
 ghost use Rattle.lists.specs.Refusals.{accepted};
 ghost use Rattle.bookcheck.specs.Search.{Tells};
-ghost use Rattle.bookcheck.proofs.Accepted.{Accepted};
+ghost use Rattle.bookcheck.specs.Accepted.{Accepted};
 ghost use Rattle.sheet.specs.Refusals.{SheetDue};
 ghost use Rattle.admission.specs.Answer.{said};
 ghost use Rattle.admission.specs.Refusals.{lengths, ShortCounts, AdmissionDue};

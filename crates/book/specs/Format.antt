@@ -53,15 +53,24 @@ arity-at b at = getD b (at + 1) 0
 abbrev pub kids-at : List ℕ → ℕ → List ℕ
 kids-at b at = part (at + 2) (arity-at b at) b
 
+-- the place behind the children: the number of pairs stands there, and everything after it goes from here
+abbrev pub after-kids : List ℕ → ℕ → ℕ
+after-kids b at = at + 2 + arity-at b at
+
 abbrev pub pairs-at : List ℕ → ℕ → ℕ
-pairs-at b at = getD b (at + 2 + arity-at b at) 0
+pairs-at b at = getD b (after-kids b at) 0
 
--- the bytes of the pairs, two each
+-- the place of pair i, which has two bytes
+abbrev pub pair-place : List ℕ → ℕ → ℕ → ℕ
+pair-place b at i = after-kids b at + 1 + 2 * i
+
+-- the bytes of the pairs
 abbrev pub bytes-at : List ℕ → ℕ → List ℕ
-bytes-at b at = part (at + 3 + arity-at b at) (2 * pairs-at b at) b
+bytes-at b at = part (after-kids b at + 1) (2 * pairs-at b at) b
 
+-- the entry ends where a further pair would stand
 abbrev pub next-at : List ℕ → ℕ → ℕ
-next-at b at = at + 3 + arity-at b at + 2 * pairs-at b at
+next-at b at = pair-place b at (pairs-at b at)
 
 -- the place of the p-th production entry
 unfoldable pub entry : List ℕ → ℕ → ℕ

@@ -8,7 +8,7 @@ use lib.ListN.{length, getD}
 use Rattle.lists.specs.Pick.{pick}
 use Rattle.chains.specs.Limits.{max-prods}
 use Rattle.chains.specs.Grammar.{Tie}
-use Rattle.book.specs.Format.{field, left-at, arity-at, next-at, entry, occ}
+use Rattle.book.specs.Format.{field, left-at, arity-at, pair-place, next-at, entry, occ}
 
 -- the i-th field of the trailer, where there is a trailer
 abbrev pub told : List ℕ → ℕ → ℕ
@@ -26,10 +26,10 @@ abbrev pub kid-at : List ℕ → ℕ → ℕ → ℕ
 kid-at b at j = getD b (at + 2 + j) 0
 
 abbrev pub to-at : List ℕ → ℕ → ℕ → ℕ
-to-at b at i = getD b (at + 3 + arity-at b at + 2 * i) 0
+to-at b at i = getD b (pair-place b at i) 0
 
 abbrev pub from-at : List ℕ → ℕ → ℕ → ℕ
-from-at b at i = getD b (at + 3 + arity-at b at + 2 * i + 1) 0
+from-at b at i = getD b (pair-place b at i + 1) 0
 
 abbrev pub pair-at : List ℕ → ℕ → ℕ → Tie
 pair-at b at i = (occ (to-at b at i), occ (from-at b at i))

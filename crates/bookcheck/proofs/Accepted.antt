@@ -14,6 +14,7 @@ use Rattle.chains.specs.Grammar.{Occ, Tie, slots, Exists, Target, Named, Tied, 
 use Rattle.book.specs.Format.{edition, kinds, prods, start, trailer, kind-at, Bit, arity-at, pairs-at, next-at, entry, occ, Laid, grammar}
 use Rattle.book.specs.Reading.{told, settings-of, mask-of, kid-at, to-at, from-at, pair-at, kind-in, following, Index}
 use Rattle.bookcheck.specs.Refusals.{OutOfRange, Applies, other-edition, out-of-range, not-laid, bad-kind, bad-kids, bad-ties, headless, BookDue}
+use Rattle.bookcheck.specs.Accepted.{Accepted}
 use Rattle.bookcheck.specs.Search.{Stands}
 use Rattle.bookcheck.proofs.Decided.{held, true-or-false, laid-decided, exists-decided, target-decided, rises-decided, head-decided}
 use Rattle.bookcheck.proofs.Laying as laying
@@ -21,15 +22,6 @@ use Rattle.bookcheck.proofs.Entry as parts
 use Rattle.bookcheck.proofs.Entry.{no-tie}
 use Rattle.book.proofs.Places.{entry-next}
 use Rattle.bookcheck.proofs.Tying.{tie-member, member-place}
-
-pub record Accepted (b : List ℕ) : Type 0 where
-  pub known : edition b ≡ 1
-  pub some-kinds : 1 ≤ kinds b
-  pub few-kinds : kinds b ≤ max-kinds
-  pub some-prods : 1 ≤ prods b
-  pub few-prods : prods b ≤ max-prods
-  pub laid : Laid b
-  pub lawful : Lawful (grammar b)
 
 -- what is tied is a member of the list of ties, and the other way round
 tied-member : (ts : List Tie) (o o′ : Occ) → Named ts o o′ → List·Memᴰ (o, o′) ts

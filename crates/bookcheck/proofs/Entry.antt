@@ -6,7 +6,7 @@ use native.Mathlib.Omega.{arith}
 use lib.ListN.{length, getD}
 use borrow.Author.Tests.{ne-eqb}
 use Rattle.chains.specs.Grammar.{Tie}
-use Rattle.book.specs.Format.{left-at, arity-at, kids-at, pairs-at, bytes-at, occ, ties-of}
+use Rattle.book.specs.Format.{left-at, arity-at, after-kids, kids-at, pairs-at, bytes-at, occ, ties-of}
 use Rattle.book.specs.Reading.{kid-at, to-at, from-at, pair-at, kind-in}
 use Rattle.bookcheck.specs.Search.{Stands}
 use Rattle.book.proofs.Bytes.{length-part, getD-part}
@@ -45,14 +45,14 @@ module _ {b : List ℕ} {at : ℕ} (s : Stands b at) where
       rw (ne-eqb (suc t) 0 (λ e. omega arith), k) (kid-is t (omega (arith, kids-long)))
 
   bytes-long : length (bytes-at b at) ≡ 2 * pairs-at b at
-  bytes-long = length-part (at + 3 + arity-at b at) (2 * pairs-at b at) b (omega (arith, s .laid .whole))
+  bytes-long = length-part (after-kids b at + 1) (2 * pairs-at b at) b (omega (arith, s .laid .whole))
 
   pub ties-count : length (ties-of (bytes-at b at)) ≡ pairs-at b at
   ties-count = ties-long (bytes-at b at) (pairs-at b at) bytes-long
 
   pub tie-is : (i : ℕ) → i < pairs-at b at → pair-at b at i ≡ getD (ties-of (bytes-at b at)) i no-tie
   tie-is i h =
-      let a = at + 3 + arity-at b at in
+      let a = after-kids b at + 1 in
       let d = 2 * pairs-at b at in
       let u : to-at b at i ≡ getD (bytes-at b at) (2 * i) 0 = sym (getD-part a d b (2 * i) (omega arith)) in
       let k : a + (2 * i + 1) ≡ a + 2 * i + 1 = omega arith in

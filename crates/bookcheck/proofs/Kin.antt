@@ -9,7 +9,7 @@ use Rattle.chains.specs.Limits.{max-kids}
 use Rattle.book.specs.Format.{left-at, arity-at}
 use Rattle.book.specs.Reading.{kid-at}
 use Rattle.bookcheck.specs.Refusals.{BadKids}
-use Rattle.bookcheck.specs.Search.{Told, Stands, alone}
+use Rattle.bookcheck.specs.Search.{TrailerTold, Stands, alone}
 use Rattle.bookcheck.proofs.Entry.{kids-long, kid-is}
 
 -- a kind that may be a child
@@ -23,7 +23,7 @@ pub record Kin (b : List ℕ) (at n first j : ℕ) : Type 0 where
   pub within : j ≤ arity-at b at
   pub apt : (i : ℕ) → i < j → Apt n first (kid-at b at i)
 
-module _ {b : List ℕ} {at n first : ℕ} (s : Stands b at) (t : Told b n first) where
+module _ {b : List ℕ} {at n first : ℕ} (s : Stands b at) (t : TrailerTold b n first) where
   pub alien-left : n ≤ left-at b at → BadKids (alone b at) 0
   alien-left h = inl (omega (arith, t .kinds-told))
 

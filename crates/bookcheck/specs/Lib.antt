@@ -1,3 +1,4 @@
 pub mod Refusals
 pub mod Answer
+pub mod Accepted
 pub mod Search

@@ -51,7 +51,7 @@ abbrev pub Climbs : List ℕ → ℕ → ℕ → Type 0
 Climbs b at i = i + 1 < pairs-at b at → Sooner (order (pair-at b at i)) (order (pair-at b at (i + 1)))
 
 -- n and first are what the trailer of a book that is laid out tells
-pub record Told (b : List ℕ) (n first : ℕ) : Type 0 where
+pub record TrailerTold (b : List ℕ) (n first : ℕ) : Type 0 where
   pub laid : Laid b
   pub kinds-told : n ≡ kinds b
   pub start-told : first ≡ start b
@@ -77,5 +77,5 @@ pub record Marks (b : List ℕ) (m : ℕ) (marks : List ℕ) : Type 0 where
 pub record Opened (b : List ℕ) (n m first : ℕ) : Type 0 where
   pub known : edition b ≡ 1
   pub in-range : OutOfRange b → ⊥
-  pub told : Told b n first
+  pub told : TrailerTold b n first
   pub prods-told : m ≡ prods b

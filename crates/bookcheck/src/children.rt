@@ -1,7 +1,7 @@
 // Refusal 6: the left kind and the children of a production.
 ghost use mathlib.Core.Path.{_≡_};
 ghost use Rattle.bookcheck.specs.Refusals.{BadKids};
-ghost use Rattle.bookcheck.specs.Search.{Tells, Told, Stands, alone};
+ghost use Rattle.bookcheck.specs.Search.{Tells, TrailerTold, Stands, alone};
 use book::arity;
 use book::kid;
 use book::left;
@@ -9,7 +9,7 @@ use book::limits::MAX_CHILDREN;
 
 // Of the entry at `at`: a kind not below `n`, too many children, or the start `first` as a child.
 pub fn bad_kids(book: &[u8], at: usize, n: u8, first: u8) -> bool
-    requires { ⌜ Stands (now book) at × Told (now book) n first ⌝ }
+    requires { ⌜ Stands (now book) at × TrailerTold (now book) n first ⌝ }
     ensures { λ r. ⌜ Tells (BadKids (alone (now (book .entry)) at) 0) r ⌝ }
 {
     if n <= left(book, at) {

@@ -2,7 +2,7 @@
 ghost use mathlib.Core.Path.{_≡_};
 ghost use Prim.Native.Nat.{_≤_};
 ghost use Rattle.book.specs.Format.{prods, grammar};
-ghost use Rattle.bookcheck.specs.Search.{Tells, Finds, Told, Stands, Bad, alone};
+ghost use Rattle.bookcheck.specs.Search.{Tells, Finds, TrailerTold, Stands, Bad, alone};
 use super::children::bad_kids;
 use super::ties::bad_ties;
 use book::first_entry;
@@ -15,7 +15,7 @@ pub enum Row {
 }
 
 fn bad(book: &[u8], at: usize, row: Row, n: u8, first: u8) -> bool
-    requires { ⌜ Stands (now book) at × Told (now book) n first ⌝ }
+    requires { ⌜ Stands (now book) at × TrailerTold (now book) n first ⌝ }
     ensures { λ r. ⌜ Tells (Bad row (alone (now (book .entry)) at) 0) r ⌝ }
 {
     match row {
@@ -26,7 +26,7 @@ fn bad(book: &[u8], at: usize, row: Row, n: u8, first: u8) -> bool
 
 // The first of the `m` productions that the row refuses, or `m`.
 pub fn first_bad(book: &[u8], row: Row, n: u8, first: u8, m: u8) -> u8
-    requires { ⌜ Told (now book) n first × (m ≡ prods (now book)) ⌝ }
+    requires { ⌜ TrailerTold (now book) n first × (m ≡ prods (now book)) ⌝ }
     ensures { λ r. ⌜ Finds (Bad row (grammar (now (book .entry)))) m r ⌝ }
 {
     let mut at = first_entry(book);

@@ -13,7 +13,7 @@ use lib.ListN.{length, getD, length-map}
 use Rattle.lists.specs.Pick.{pick}
 use Rattle.chains.specs.Grammar.{Named}
 use Rattle.chains.specs.Chain.{Eqv, done, fwd, bwd}
-use Rattle.chains.specs.Labels.{swap, relabel, joinAt, joins, joinAtF, joinsF, apart, labels}
+use Rattle.chains.specs.Labels.{swap, relabel, joinAt, joins, joinAtF, joinsF, apart, labels-by}
 use Rattle.chains.proofs.Closure.{bind}
 
 -- labels that the edges keep, chains keep
@@ -137,13 +137,13 @@ joins-more l [] ds = refl
 joins-more l (e ∷ es) ds = joins-more (joinAt l (e .0) (e .1)) es ds
 
 -- ---- labels that a function gives
-pub length-labels : (f : ℕ → ℕ) (k n : ℕ) → length (labels f k n) ≡ n
-unfolding labels
+pub length-labels : (f : ℕ → ℕ) (k n : ℕ) → length (labels-by f k n) ≡ n
+unfolding labels-by
 length-labels f k zero = refl
 length-labels f k (suc n) = ap suc (length-labels f (suc k) n)
 
-pub labels-at : (f : ℕ → ℕ) (k n i : ℕ) → i < n → getD (labels f k n) i 0 ≡ f (k + i)
-unfolding labels
+pub labels-at : (f : ℕ → ℕ) (k n i : ℕ) → i < n → getD (labels-by f k n) i 0 ≡ f (k + i)
+unfolding labels-by
 labels-at f k zero i h = absurd (omega arith)
 labels-at f k (suc n) zero h = ap f (omega arith)
 labels-at f k (suc n) (suc i) h = labels-at f (suc k) n i (omega arith) ∙ ap f (omega arith)

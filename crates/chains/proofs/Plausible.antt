@@ -23,15 +23,15 @@ pub plausible-code : (G : Grammar) (k c : ℕ) → Plausible G k c → Code G k 
 plausible-code G k c (f, h, s) = (s .low, s .first)
 
 -- the j-th code relates what the j-th tree chains among its root's settings
-abbrev Told : Grammar → Bush → List ℕ → List ℕ → Type 0
-Told G f ks cs = (j a b : ℕ) → Each G ks cs j a b ↔ Up G f j a b
+abbrev CodesTold : Grammar → Bush → List ℕ → List ℕ → Type 0
+CodesTold G f ks cs = (j a b : ℕ) → Each G ks cs j a b ↔ Up G f j a b
 
 -- the code c of the kind k relates what the first tree does
 abbrev First : Grammar → Bush → ℕ → ℕ → Type 0
 First G f k c = (a b : ℕ) → Alike G k c a b ↔ Up G f 0 a b
 
-told-cons : (G : Grammar) (p : ℕ) (ds rest : Bush) (ks : List ℕ) (k c : ℕ) (cs : List ℕ) → First G (grow p ds rest) k c → Told G rest ks cs
-    → Told G (grow p ds rest) (k ∷ ks) (c ∷ cs)
+told-cons : (G : Grammar) (p : ℕ) (ds rest : Bush) (ks : List ℕ) (k c : ℕ) (cs : List ℕ) → First G (grow p ds rest) k c → CodesTold G rest ks cs
+    → CodesTold G (grow p ds rest) (k ∷ ks) (c ∷ cs)
 told-cons G p ds rest ks k c cs h t zero a b = h a b
 told-cons G p ds rest ks k c cs h t (suc j) a b = t j a b
 
@@ -45,7 +45,7 @@ ClosedUp G S = (p d : ℕ) → p < G .prods → StepUp G S p d → S (G .left p)
 
 module _ (G : Grammar) (L : Lawful G) where
   -- where the codes tell what the trees do, the closure of either is the other's
-  told-closure : (p : ℕ) (f : Bush) (cs : List ℕ) → Told G f (G .kids p) cs → (a b : ℕ)
+  told-closure : (p : ℕ) (f : Bush) (cs : List ℕ) → CodesTold G f (G .kids p) cs → (a b : ℕ)
       → Closure G p (Slotwise (λ a b. ⊥) (Each G (G .kids p) cs)) (0, a) (0, b) ↔ Closure G p (Slotwise (λ a b. ⊥) (Up G f)) (0, a) (0, b)
   told-closure p f cs t a b = closure-iff G p (λ a b. ⊥) (λ a b. ⊥) (Each G (G .kids p) cs) (Up G f) (λ a b. (λ r. r, λ r. r)) t (0, a) (0, b)
 
@@ -54,7 +54,7 @@ module _ (G : Grammar) (L : Lawful G) where
     abbrev Good : ℕ → ℕ → Type 0
     Good k c = S k c × Code G k c
 
-    forest-codes : (f : Bush) (ks : List ℕ) → Kinded G f ks → (cs : List ℕ) × Members Good ks cs × Told G f ks cs
+    forest-codes : (f : Bush) (ks : List ℕ) → Kinded G f ks → (cs : List ℕ) × Members Good ks cs × CodesTold G f ks cs
     forest-codes nil [] h = ([], tt, λ j a b. (λ r. r, λ r. r))
     forest-codes nil (k ∷ ks) h = absurd h
     forest-codes (grow p ds rest) [] h = absurd h
@@ -72,7 +72,7 @@ module _ (G : Grammar) (L : Lawful G) where
     tree-code (grow p ds (grow q es rest)) k h = absurd (h .2)
     tree-code (grow p ds nil) k h = let (cs, ms, t) = forest-codes (grow p ds nil) (k ∷ []) h in only cs ms t
       where
-        only : (cs : List ℕ) → Members Good (k ∷ []) cs → Told G (grow p ds nil) (k ∷ []) cs → (c : ℕ) × S k c × Says (G .settings k) c (λ a b. Chain G (grow p ds nil) 0 (0, a) (0, b))
+        only : (cs : List ℕ) → Members Good (k ∷ []) cs → CodesTold G (grow p ds nil) (k ∷ []) cs → (c : ℕ) × S k c × Says (G .settings k) c (λ a b. Chain G (grow p ds nil) 0 (0, a) (0, b))
         only [] m t = absurd m
         only (c ∷ (c′ ∷ cs)) m t = absurd (m .1)
         only (c ∷ []) m t = (
@@ -120,14 +120,14 @@ module _ (G : Grammar) (L : Lawful G) where
       alike-iff G k c (λ a b. Up G (grow p ds nil) 0 a b) (says-map s (λ a b ha hb. chain-iff-up G (grow p ds nil) 0 0 0 a b (kinded-fits G L (grow p ds nil) (k ∷ []) h) refl))
       (λ a. done) (root-real p k ds (h .0) (up-real ds (G .kids p) (h .1)))
 
-  side-by-side : (ks cs : List ℕ) → Members (Plausible G) ks cs → (f : Bush) × Kinded G f ks × Told G f ks cs
+  side-by-side : (ks cs : List ℕ) → Members (Plausible G) ks cs → (f : Bush) × Kinded G f ks × CodesTold G f ks cs
   side-by-side [] [] m = (nil, tt, λ j a b. (λ r. r, λ r. r))
   side-by-side [] (c ∷ cs) m = absurd m
   side-by-side (k ∷ ks) [] m = absurd m
   side-by-side (k ∷ ks) (c ∷ cs) ((f, h, s), ms) = let (g, hg, t) = side-by-side ks cs ms in beside f h s g hg t
     where
-      beside : (f : Bush) → Kinded G f (k ∷ []) → Says (G .settings k) c (λ a b. Chain G f 0 (0, a) (0, b)) → (g : Bush) → Kinded G g ks → Told G g ks cs
-          → (f : Bush) × Kinded G f (k ∷ ks) × Told G f (k ∷ ks) (c ∷ cs)
+      beside : (f : Bush) → Kinded G f (k ∷ []) → Says (G .settings k) c (λ a b. Chain G f 0 (0, a) (0, b)) → (g : Bush) → Kinded G g ks → CodesTold G g ks cs
+          → (f : Bush) × Kinded G f (k ∷ ks) × CodesTold G f (k ∷ ks) (c ∷ cs)
       beside nil h s g hg t = absurd h
       beside (grow p ds (grow q es rest)) h s g hg t = absurd (h .2)
       beside (grow p ds nil) h s g hg t = (grow p ds g, (h .0, h .1, hg), told-cons G p ds g ks k c cs (told-first p k c ds g h s) t)

@@ -7,7 +7,7 @@ use Rattle.lists.specs.Refusals.{Said, accepted, refused}
 use Rattle.lists.proofs.Refusals.{first-once}
 use Rattle.chains.specs.Grammar.{Grammar}
 use Rattle.chains.specs.Tree.{Bush}
-use Rattle.sheet.specs.Reading.{settings-of}
+use Rattle.sheet.specs.Reading.{all-settings}
 use Rattle.numbering.specs.Walk.{Tables, places, started, group-numbers}
 use Rattle.numbering.specs.Promise.{Lent, Applies, Fault, turn, Grouped, CallDue}
 use Rattle.claims.proofs.Demand2Groups.{one-tree-of}
@@ -26,12 +26,12 @@ module _ {G : Grammar} {l : List ℕ} {T : Tables} {m m₁ m₂ : Lent} {cs ds :
   one = one-tree-of (g .of) (h .of)
 
   same-counts : cs ≡ ds
-  same-counts = g .counted ∙ ap (λ (f : Bush). length l ∷ settings-of G l ∷ group-numbers G T f .next ∷ []) one ∙ sym (h .counted)
+  same-counts = g .counted ∙ ap (λ (f : Bush). length l ∷ all-settings G l ∷ group-numbers G T f .next ∷ []) one ∙ sym (h .counted)
 
   same-memory : m₁ ≡ m₂
   same-memory =
       lent-same m₁ m₂ (g .nodes ∙ ap (λ (f : Bush). places G T f (started G T f) ++ drop (3 * length l) (m .nodes)) one ∙ sym (h .nodes))
-      (g .groups ∙ ap (λ (f : Bush). group-numbers G T f .list ++ drop (settings-of G l) (m .groups)) one ∙ sym (h .groups))
+      (g .groups ∙ ap (λ (f : Bush). group-numbers G T f .list ++ drop (all-settings G l) (m .groups)) one ∙ sym (h .groups))
 
 -- THEOREM: two outcomes that keep the promise of the sheet call are the same answer and leave the same memory
 pub call-once : (b l : List ℕ) (T : Tables) (m : Lent) (a a′ : Said) (m₁ m₂ : Lent) → CallDue b l T m a m₁ → CallDue b l T m a′ m₂ → (a ≡ a′) × (m₁ ≡ m₂)

@@ -16,7 +16,7 @@ use Rattle.chains.proofs.Read.{one-forest}
 use Rattle.chains.proofs.Entries.{subtree-says, whole-says}
 use Rattle.chains.proofs.Walk.{numbers-exact, numbers-used}
 use Rattle.book.specs.Format.{grammar}
-use Rattle.sheet.specs.Reading.{settings-of}
+use Rattle.sheet.specs.Reading.{all-settings}
 use Rattle.members.specs.Sets.{member}
 use Rattle.tables.specs.Promise as tables
 use Rattle.numbering.specs.Walk.{Tables, places, started, group-numbers}
@@ -24,7 +24,7 @@ use Rattle.numbering.specs.Places.{plausible-rank, feasible-rank, down-entry-of
 use Rattle.numbering.specs.Promise as numbering
 use Rattle.numbering.proofs.Listed.{label-of}
 use Rattle.numbering.proofs.InOrder.{next-at, next-last, walk-numbered}
-use Rattle.claims.specs.Build.{Taken}
+use Rattle.claims.specs.Build.{LeftBy}
 use Rattle.claims.specs.Groups.{GroupsAreChains}
 use Rattle.claims.proofs.Served.{Served, built-lawful, built-serves}
 use Rattle.claims.proofs.Chosen.{code-of, kind-at, rise, plausible-below, feasible-below, fall, entries-told}
@@ -40,14 +40,14 @@ pub groups-carried : {G : Grammar} {l : List ℕ} {T : Tables} {m m′ : numberi
     → Carries (m′ .groups) 0 (group-numbers G T (g .of .tree) .list)
 groups-carried {G} {l} {T} {m} g =
     subst (λ (u : List ℕ). Carries u 0 (group-numbers G T (g .of .tree) .list)) (sym (g .groups))
-    (carries-whole (group-numbers G T (g .of .tree) .list) (drop (settings-of G l) (m .groups)))
+    (carries-whole (group-numbers G T (g .of .tree) .list) (drop (all-settings G l) (m .groups)))
 
 -- a sheet has one tree
 pub one-tree-of : {G : Grammar} {l : List ℕ} (t u : numbering.TreeOf G l) → t .tree ≡ u .tree
 one-tree-of {G} t u = one-forest G (G .start ∷ []) (t .tree) (u .tree) (t .kinded) (u .kinded) (t .reads ∙ sym (u .reads))
 
 -- ── one accepted call, by tables that serve its grammar ──
-module _ {G : Grammar} (L : Lawful G) (m : tables.Lent) {T : Tables} (served : Served G (m .plausible) (m .feasible) T) (taken : Taken G m T) {l : List ℕ} {n n′ : numbering.Lent} {counts : List ℕ}
+module _ {G : Grammar} (L : Lawful G) (m : tables.Lent) {T : Tables} (served : Served G (m .plausible) (m .feasible) T) (taken : LeftBy G m T) {l : List ℕ} {n n′ : numbering.Lent} {counts : List ℕ}
     (g : numbering.Grouped G l T n n′ counts) where
   abbrev tree : Bush
   tree = g .of .tree
@@ -102,7 +102,7 @@ module _ {G : Grammar} (L : Lawful G) (m : tables.Lent) {T : Tables} (served : S
 
 -- THEOREM: after an accepted build of a book, every accepted sheet call by what it left tells the chains of the sheet's tree
 pub groups-are-chains : {b l : List ℕ} {m₀ m : tables.Lent} {entries : List ℕ} {T : Tables} {n₀ n : numbering.Lent} {counts : List ℕ}
-    → tables.BuildDue b m₀ (accepted entries) m → Taken (grammar b) m T → numbering.CallDue b l T n₀ (accepted counts) n
+    → tables.BuildDue b m₀ (accepted entries) m → LeftBy (grammar b) m T → numbering.CallDue b l T n₀ (accepted counts) n
     → (t : numbering.TreeOf (grammar b) l) → GroupsAreChains (grammar b) l (t .tree) m n counts
 groups-are-chains {b} {l} {m₀} {m} {entries} {T} {n₀} {n} {counts} build taken call t =
     subst (λ f. GroupsAreChains (grammar b) l f m n counts) (one-tree-of (call .1 .of) t) (its-groups (built-lawful build) m (built-serves build taken) taken (call .1))

@@ -25,7 +25,7 @@ use Rattle.tables.proofs.Memory.{fine-placed}
 use Rattle.numbering.specs.Walk.{Tables}
 use Rattle.numbering.specs.Promise.{Lent, TreeOf, CallDue}
 use Rattle.numbering.specs.Places.{plausible-rank, feasible-rank, number-of}
-use Rattle.claims.specs.Build.{Taken, tables-of}
+use Rattle.claims.specs.Build.{LeftBy, tables-of}
 use Rattle.claims.specs.Groups.{RankOf, GroupsAreChains}
 use Rattle.claims.specs.Replaced.{Replacement, Outside, Unchanged}
 use Rattle.claims.proofs.Served.{Served, built-lawful, taken-whole, built-serves}
@@ -95,7 +95,7 @@ module _ {G : Grammar} (L : Lawful G) {m : tables.Lent} (served : Served G (m .p
 -- THEOREM: of two accepted sheet calls by what one accepted build left, where the one sheet is the other with a subtree replaced by one that groups
 -- its root's settings in the same way, the nodes outside have the same ranks, and settings outside share a group in the one exactly when in the other
 pub nothing-changes-outside : {b l l′ : List ℕ} {m₀ m : tables.Lent} {entries : List ℕ} {T T′ : Tables} {n₀ n n₀′ n′ : Lent} {counts counts′ : List ℕ}
-    → tables.BuildDue b m₀ (accepted entries) m → Taken (grammar b) m T → Taken (grammar b) m T′
+    → tables.BuildDue b m₀ (accepted entries) m → LeftBy (grammar b) m T → LeftBy (grammar b) m T′
     → CallDue b l T n₀ (accepted counts) n → CallDue b l′ T′ n₀′ (accepted counts′) n′
     → (r : Replacement (grammar b) l l′) (t : TreeOf (grammar b) l) → Unchanged r t n n′
 nothing-changes-outside {b} {l} {l′} {m₀} {m} {entries} {T} {T′} {n₀} {n} {n₀′} {n′} {counts} {counts′} build taken taken′ call call′ r t =

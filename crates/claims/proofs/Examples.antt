@@ -9,7 +9,7 @@ use Rattle.lists.specs.Refusals.{accepted, refused}
 use Rattle.chains.specs.Grammar.{Grammar}
 use Rattle.chains.specs.Tree.{Bush, nil, grow}
 use Rattle.book.specs.Format.{entry, grammar}
-use Rattle.sheet.specs.Reading.{Node, due, Read, begun, further, settings-of}
+use Rattle.sheet.specs.Reading.{Node, due, Read, begun, further, all-settings}
 use Rattle.sheet.specs.Refusals as sheet
 use Rattle.sheet.specs.Stops.{Fault, unknown, unfit, deep, Stop}
 use Rattle.sheet.specs.Trees.{Drawn}
@@ -95,7 +95,7 @@ abbrev tower : ℕ → ℕ → ℕ → Bush
 tower p q r = grow p (grow q (grow r nil nil) nil) nil
 
 -- a sheet of such a tree, with ten settings; what the walk by the tables tells of it
-module _ (p q r : ℕ) (drawn : Drawn G (p ∷ q ∷ r ∷ []) (tower p q r)) (settings : settings-of G (p ∷ q ∷ r ∷ []) ≡ 10) (nodes groups : List ℕ) (count : ℕ)
+module _ (p q r : ℕ) (drawn : Drawn G (p ∷ q ∷ r ∷ []) (tower p q r)) (settings : all-settings G (p ∷ q ∷ r ∷ []) ≡ 10) (nodes groups : List ℕ) (count : ℕ)
     (told : places G (tables-of left) (tower p q r) (started G (tables-of left) (tower p q r)) ≡ nodes) (nine : length nodes ≡ 9)
     (numbers : group-numbers G (tables-of left) (tower p q r) .list ≡ groups) (ten : length groups ≡ 10) (next : group-numbers G (tables-of left) (tower p q r) .next ≡ count) where
   abbrev l : List ℕ
@@ -104,9 +104,9 @@ module _ (p q r : ℕ) (drawn : Drawn G (p ∷ q ∷ r ∷ []) (tower p q r)) (s
   abbrev lent : Lent
   lent = record { nodes = replicate (length nodes) 0; groups = replicate (length groups) 0 }
 
-  sound : sheet.SheetDue book l (accepted (3 ∷ settings-of G l ∷ []))
+  sound : sheet.SheetDue book l (accepted (3 ∷ all-settings G l ∷ []))
   sound =
-      sheet-tree book l (3 ∷ settings-of G l ∷ []) .1
+      sheet-tree book l (3 ∷ all-settings G l ∷ []) .1
       (record { sound = λ f a. book-free (f .0) (f .1) a; some = omega arith; few = omega arith; tree = tower p q r; drawn = drawn }, refl)
 
   grouped-so : Claim (grouped l (3 ∷ 10 ∷ count ∷ []) nodes groups)
@@ -124,7 +124,7 @@ module _ (p q r : ℕ) (drawn : Drawn G (p ∷ q ∷ r ∷ []) (tower p q r)) (s
 
 -- THEOREM: every row of the table holds
 pub examples-hold : AllHold table
-unfolding entry settings-of ranks places numbered unused slot-labels kid-labels walk root-entry root-labels choices choice up-start down-start
+unfolding entry all-settings ranks places numbered unused slot-labels kid-labels walk root-entry root-labels choices choice up-start down-start
 examples-hold = (
   (two-rise, plausible-exactly 0),
   (

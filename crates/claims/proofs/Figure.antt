@@ -6,12 +6,13 @@ use mathlib.Core.List.{List, [], _∷_, _++_}
 use Prim.Native.Nat.{ℕ, zero, suc, _-_, _<_}
 use native.Mathlib.Omega.{arith}
 use lib.ListN.{length, getD, replicate}
-use Rattle.chains.specs.Labels.{relabel, joins, labels, index, add, canonFrom}
+use Rattle.chains.specs.Labels.{relabel, joins, labels-by, index, add, canonFrom}
 use Rattle.chains.specs.Grouping.{unpack, pack}
 use Rattle.chains.specs.State.{pairs-from}
 use Rattle.book.specs.Format.{entry, ties-of, grammar}
 use Rattle.bookcheck.specs.Refusals.{OutOfRange, Applies}
-use Rattle.bookcheck.proofs.Accepted.{Accepted, accepted-book}
+use Rattle.bookcheck.specs.Accepted.{Accepted}
+use Rattle.bookcheck.proofs.Accepted.{accepted-book}
 use Rattle.ranks.specs.Entries.{choices, choice, up-start, down-start, none}
 use Rattle.tables.specs.Entries.{picked, UpTable, DownTable}
 use Rattle.tables.specs.State.{based}
@@ -121,7 +122,7 @@ left = record {
 
 -- ── its tables are right ──
 up-tested : (p : ℕ) → p < 5 → all-ranks (left .plausible-counts) (grammar book .kids p) (up-test book (left .plausible) (left .plausible-counts) (left .up) p) ≡ true
-unfolding entry ties-of all-below all-ranks up-test rank-test picked tie-all based joins relabel labels index add canonFrom pack unpack pairs-from choices choice up-start
+unfolding entry ties-of all-below all-ranks up-test rank-test picked tie-all based joins relabel labels-by index add canonFrom pack unpack pairs-from choices choice up-start
 up-tested zero h = refl
 up-tested (suc zero) h = refl
 up-tested (suc (suc zero)) h = refl
@@ -134,7 +135,7 @@ up-is-right = up-right book (left .plausible) (left .plausible-counts) book-acce
 
 down-tested : (p : ℕ) → p < 5 → all-below (λ u. all-ranks (left .plausible-counts) (grammar book .kids p)
     (down-test book (left .plausible) (left .plausible-counts) (left .feasible) (left .feasible-counts) (left .down) p u)) (getD (left .feasible-counts) (grammar book .left p) 0) ≡ true
-unfolding entry ties-of all-below all-ranks down-test rank-test picked tie-all based joins relabel labels index add canonFrom pack unpack pairs-from choices choice down-start tidy same
+unfolding entry ties-of all-below all-ranks down-test rank-test picked tie-all based joins relabel labels-by index add canonFrom pack unpack pairs-from choices choice down-start tidy same
 down-tested zero h = refl
 down-tested (suc zero) h = refl
 down-tested (suc (suc zero)) h = refl

@@ -15,7 +15,7 @@ use Rattle.lists.specs.Refusals.{accepted}
 use Rattle.chains.specs.Limits.{max-members}
 use Rattle.chains.specs.Grammar.{Grammar, Lawful, width}
 use Rattle.chains.specs.Grouping.{Members, unpack, pack}
-use Rattle.chains.specs.Labels.{relabel, joins, labels, index, add, canonFrom}
+use Rattle.chains.specs.Labels.{relabel, joins, labels-by, index, add, canonFrom}
 use Rattle.chains.specs.State.{pairs-from, code-on}
 use Rattle.chains.specs.Plausible.{Plausible}
 use Rattle.chains.specs.Feasible.{Feasible, root, down}
@@ -57,7 +57,7 @@ by-production p h cs long ms = plausible-sound G lawful p (code-on 0 (width G p 
 
 -- by the trees that the productions named here grow
 plausible-codes : All (Plausible G S) (0 ∷ 8 ∷ []) × All (Plausible G X) (0 ∷ 72 ∷ 576 ∷ []) × All (Plausible G Y) (72 ∷ 576 ∷ [])
-unfolding entry ties-of based tie-all joins relabel labels index add canonFrom pack unpack pairs-from
+unfolding entry ties-of based tie-all joins relabel labels-by index add canonFrom pack unpack pairs-from
 plausible-codes =
     let y-576 : Plausible G Y 576 = by-production 3 (omega arith) [] refl tt in
     let y-72 : Plausible G Y 72 = by-production 4 (omega arith) [] refl tt in
@@ -80,7 +80,7 @@ by-child : (p : ℕ) (h : p < 5) (c : ℕ) (cs : List ℕ) (long : length cs ≡
 by-child p h c cs long j l f ms = down p j c cs h l f ms (down-says book-accepted p h cs long c (suc j) (omega arith))
 
 feasible-codes : All (Feasible G S) (0 ∷ 8 ∷ []) × All (Feasible G X) (0 ∷ 72 ∷ 576 ∷ []) × All (Feasible G Y) (0 ∷ 72 ∷ 576 ∷ [])
-unfolding entry ties-of based tie-all joins relabel labels index add canonFrom pack unpack pairs-from
+unfolding entry ties-of based tie-all joins relabel labels-by index add canonFrom pack unpack pairs-from
 feasible-codes =
     let ((s-0, (s-8, u)), (x-0, (x-72, (x-576, v))), (y-72, (y-576, w))) = plausible-codes in
     let fx-0 : Feasible G X 0 = by-child 0 (omega arith) 0 (0 ∷ []) refl 0 (omega arith) (root s-0) (x-0, tt) in

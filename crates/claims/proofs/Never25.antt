@@ -12,7 +12,7 @@ use Rattle.chains.specs.Tree.{Bush, Kinded, Sub}
 use Rattle.chains.proofs.Range.{root-exists}
 use Rattle.chains.proofs.WellKinded.{kinded-count}
 use Rattle.book.specs.Format.{grammar}
-use Rattle.sheet.specs.Reading.{settings-of}
+use Rattle.sheet.specs.Reading.{all-settings}
 use Rattle.sheet.specs.Refusals.{SheetDue}
 use Rattle.sheet.proofs.Refusals.{Row, books, lengths, reads, row, fault-low}
 use Rattle.bookcheck.proofs.Rows.{row-of-book}
@@ -22,7 +22,7 @@ use Rattle.tables.specs.Promise as tables
 use Rattle.numbering.specs.Walk.{Tables, ranks, given, places, started, group-numbers}
 use Rattle.numbering.specs.Places.{feasible-rank}
 use Rattle.numbering.specs.Promise.{Lent, TreeOf, BigCount, BadUp, BadRoot, BadDown, entry-at, Applies, of-sheet, short-counts, short-room, big-count, bad-up, bad-root, bad-down, CallDue}
-use Rattle.claims.specs.Build.{Taken}
+use Rattle.claims.specs.Build.{LeftBy}
 use Rattle.claims.specs.Own.{Never25}
 use Rattle.claims.proofs.Served.{Served, start-count, built-lawful, built-serves}
 use Rattle.claims.proofs.Chosen.{ranks-below, in-place, here, started-below, handed, feasible-below}
@@ -79,7 +79,7 @@ tree-of b l checked sound =
     record { tree = fits .tree; kinded = fits .drawn .kinded; reads = fits .drawn .bytes }
 
 -- a build of the book b left m, and T has it; n₀ is lent to a call with the sheet l
-module _ {b l : List ℕ} {m₀ m : tables.Lent} {entries : List ℕ} {T : Tables} {n₀ : Lent} (build : tables.BuildDue b m₀ (accepted entries) m) (taken : Taken (grammar b) m T) where
+module _ {b l : List ℕ} {m₀ m : tables.Lent} {entries : List ℕ} {T : Tables} {n₀ : Lent} (build : tables.BuildDue b m₀ (accepted entries) m) (taken : LeftBy (grammar b) m T) where
   -- no row applies but those before 25
   pub below-25 : {n p t : ℕ} → Applies b l T n₀ n p t → n < 25
   below-25 (of-sheet a) = let h = sheet-row (row a) in omega arith
@@ -92,7 +92,7 @@ module _ {b l : List ℕ} {m₀ m : tables.Lent} {entries : List ℕ} {T : Table
 
   -- ── a sheet that the sheet check accepts, and room for what is told of it ──
   module _ {checked : List ℕ} (sound : SheetDue b l (accepted checked)) (nodes-fit : 3 * length l ≤ length (n₀ .nodes))
-      (groups-fit : settings-of (grammar b) l ≤ length (n₀ .groups)) where
+      (groups-fit : all-settings (grammar b) l ≤ length (n₀ .groups)) where
     pub no-row : (n p t : ℕ) → Applies b l T n₀ n p t → ⊥
     no-row n p t (of-sheet a) = sound .1 (n, p) a
     no-row n p t (short-counts (inl h)) = omega (arith, taken .plausible-here)
@@ -110,8 +110,8 @@ module _ {b l : List ℕ} {m₀ m : tables.Lent} {entries : List ℕ} {T : Table
         let G = grammar b in
         let u = tree-of b l checked sound in
         let f = u .tree in
-        let n : Lent = record { nodes = places G T f (started G T f) ++ drop (3 * length l) (n₀ .nodes); groups = group-numbers G T f .list ++ drop (settings-of G l) (n₀ .groups) } in
-        (length l ∷ settings-of G l ∷ group-numbers G T f .next ∷ [], n, (no-row, record { of = u; nodes = refl; groups = refl; counted = refl }))
+        let n : Lent = record { nodes = places G T f (started G T f) ++ drop (3 * length l) (n₀ .nodes); groups = group-numbers G T f .list ++ drop (all-settings G l) (n₀ .groups) } in
+        (length l ∷ all-settings G l ∷ group-numbers G T f .next ∷ [], n, (no-row, record { of = u; nodes = refl; groups = refl; counted = refl }))
 
   -- THEOREM: by what a build of its own book left a sheet call is never refused with 25, and what the sheet check accepts it groups
   pub never-25 : Never25 b l T n₀

@@ -29,7 +29,7 @@ use Rattle.tables.proofs.Holds.{holds-fine}
 use Rattle.tables.proofs.Entries.{choices-same, kids-same, up-start-same, up-entries-same, down-start-same, down-entries-same}
 use Rattle.tables.proofs.Promise.{plausible-there, plausible-here, feasible-there, feasible-here}
 use Rattle.numbering.specs.Walk.{Tables}
-use Rattle.claims.specs.Build.{Taken, tables-of}
+use Rattle.claims.specs.Build.{LeftBy, tables-of}
 
 -- s and f have the sets, T has the counts and the tables
 pub record Served (G : Grammar) (s f : List ℕ) (T : Tables) : Type 0 where
@@ -85,7 +85,7 @@ module _ {b : List ℕ} {m m′ : Lent} {cs : List ℕ} (due : BuildDue b m (acc
   built-lawful = lawful-book b (λ n p a. due .0 n p (of-book a))
 
   -- the memory itself has what the build left
-  pub taken-whole : Taken (grammar b) m′ (tables-of m′)
+  pub taken-whole : LeftBy (grammar b) m′ (tables-of m′)
   taken-whole =
       let (free, u) = due in
       record {
@@ -101,7 +101,7 @@ module _ {b : List ℕ} {m m′ : Lent} {cs : List ℕ} (due : BuildDue b m (acc
 
   -- so has what begins with it, whatever tails follow
   pub taken-tails : (c₁ d₁ u₁ w₁ : List ℕ)
-      → Taken (grammar b) m′ (record { plausible-counts = m′ .plausible-counts ++ c₁; feasible-counts = m′ .feasible-counts ++ d₁; up = m′ .up ++ u₁; down = m′ .down ++ w₁ })
+      → LeftBy (grammar b) m′ (record { plausible-counts = m′ .plausible-counts ++ c₁; feasible-counts = m′ .feasible-counts ++ d₁; up = m′ .up ++ u₁; down = m′ .down ++ w₁ })
   taken-tails c₁ d₁ u₁ w₁ =
       let w = taken-whole in
       record {
@@ -115,7 +115,7 @@ module _ {b : List ℕ} {m m′ : Lent} {cs : List ℕ} (due : BuildDue b m (acc
         down = λ i h. List·getD-append (m′ .down) w₁ none i (omega (arith, w .down-room));
       }
 
-  module _ {T : Tables} (taken : Taken (grammar b) m′ T) where
+  module _ {T : Tables} (taken : LeftBy (grammar b) m′ T) where
     abbrev G : Grammar
     G = grammar b
 

@@ -18,7 +18,7 @@ use Rattle.chains.specs.Labels.{joins, index, add}
 use Rattle.chains.specs.State.{code-on, code-pairs}
 use Rattle.chains.proofs.Step.{width-few}
 use Rattle.book.specs.Format.{prods, entry, grammar}
-use Rattle.bookcheck.proofs.Accepted.{Accepted}
+use Rattle.bookcheck.specs.Accepted.{Accepted}
 use Rattle.ranks.specs.Entries.{up-entry, down-entry, labels, entry-bytes, none}
 use Rattle.members.specs.Sets.{member}
 use Rattle.tables.specs.Entries.{picked, Upward, Downward, Ranked, UpTable, Labelled, DownTable}

@@ -10,7 +10,7 @@ use Rattle.numbering.specs.Walk.{Tables}
 
 -- T has what a build left in the memory m: the counts of the grammar's kinds and every entry of the two tables. What stands behind them, and how much of
 -- it there is, is free
-pub record Taken (G : Grammar) (m : tables.Lent) (T : Tables) : Type 0 where
+pub record LeftBy (G : Grammar) (m : tables.Lent) (T : Tables) : Type 0 where
   pub plausible-here : G .kinds ≤ length (T .plausible-counts)
   pub plausible-counts : (k : ℕ) → k < G .kinds → getD (T .plausible-counts) k 0 ≡ getD (m .plausible-counts) k 0
   pub feasible-here : G .kinds ≤ length (T .feasible-counts)

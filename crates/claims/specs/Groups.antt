@@ -8,7 +8,7 @@ use Rattle.chains.specs.Grammar.{Grammar}
 use Rattle.chains.specs.Tree.{Bush, Inst, Sub, Fitted}
 use Rattle.chains.specs.Chain.{Chain, RootChains, NodeChains}
 use Rattle.chains.specs.Grouping.{Says}
-use Rattle.sheet.specs.Reading.{settings-of}
+use Rattle.sheet.specs.Reading.{all-settings}
 use Rattle.members.specs.Sets.{member}
 use Rattle.tables.specs.Promise as tables
 use Rattle.numbering.specs.Promise as numbering
@@ -29,5 +29,5 @@ pub record GroupsAreChains (G : Grammar) (l : List ℕ) (f : Bush) (m : tables.L
   pub whole : (i q : ℕ) (ds : Bush) → Sub f 0 i q ds → RankOf G (m .feasible) (m .feasible-counts) (G .left q) (NodeChains G f i) (feasible-rank (n .nodes) i)
   -- the answer has the numbers of nodes, of settings and of groups; the numbers in use are those below the number of groups
   pub groups : ℕ
-  pub counted : counts ≡ length l ∷ settings-of G l ∷ groups ∷ []
+  pub counted : counts ≡ length l ∷ all-settings G l ∷ groups ∷ []
   pub used : (g : ℕ) → (g < groups) ↔ ((x : Inst) × Fitted G f 0 x × (number-of G l (n .groups) x ≡ g))

@@ -4,7 +4,7 @@ use Prim.Native.Nat.{ℕ, _*_, _≤_, _<_}
 use lib.ListN.{length}
 use Rattle.lists.specs.Refusals.{accepted, refused}
 use Rattle.book.specs.Format.{grammar}
-use Rattle.sheet.specs.Reading.{settings-of}
+use Rattle.sheet.specs.Reading.{all-settings}
 use Rattle.sheet.specs.Refusals.{SheetDue}
 use Rattle.numbering.specs.Walk.{Tables}
 use Rattle.numbering.specs.Promise.{Lent, CallDue}
@@ -14,5 +14,5 @@ pub record Never25 (b l : List ℕ) (T : Tables) (n₀ : Lent) : Type 0 where
   -- whatever it is refused with is below 25
   pub refused-below : (n : Lent) (number place : ℕ) → CallDue b l T n₀ (refused number place) n → number < 25
   -- a sheet that the sheet check accepts, with room for what is told of it, is accepted
-  pub accepts : (checked : List ℕ) → SheetDue b l (accepted checked) → 3 * length l ≤ length (n₀ .nodes) → settings-of (grammar b) l ≤ length (n₀ .groups)
+  pub accepts : (checked : List ℕ) → SheetDue b l (accepted checked) → 3 * length l ≤ length (n₀ .nodes) → all-settings (grammar b) l ≤ length (n₀ .groups)
       → (counts : List ℕ) × (n : Lent) × CallDue b l T n₀ (accepted counts) n

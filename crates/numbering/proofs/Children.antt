@@ -12,10 +12,11 @@ use Rattle.lists.specs.Pick.{pick}
 use Rattle.chains.specs.Limits.{max-kids, max-nodes}
 use Rattle.book.specs.Format.{grammar, kinds, prods, entry, left-at, arity-at}
 use Rattle.book.specs.Reading.{settings-of, kid-at}
-use Rattle.bookcheck.proofs.Accepted.{Accepted, place-read, settings-read, arity-read, kid-read}
+use Rattle.bookcheck.specs.Accepted.{Accepted}
+use Rattle.bookcheck.proofs.Accepted.{place-read, settings-read, arity-read, kid-read}
 use Rattle.ranks.specs.declared.Plausible.{Plausible}
 use Rattle.ranks.specs.Reads.{numbers}
-use Rattle.ranks.proofs.Padded.{CountsPadded}
+use Rattle.ranks.specs.Padded.{CountsPadded}
 use Rattle.numbering.specs.Parts.{Indexed, child-at, Children, Kindred}
 use Rattle.numbering.proofs.Building.{Building, building-none, building-turn}
 

@@ -11,7 +11,7 @@ use Rattle.chains.specs.Grammar.{Grammar}
 use Rattle.chains.specs.Tree.{Bush, nil, grow, size, Kinded, Sub}
 use Rattle.chains.proofs.Nodes.{sub-in}
 use Rattle.book.specs.Format.{grammar, kinds, start}
-use Rattle.bookcheck.proofs.Accepted.{Accepted}
+use Rattle.bookcheck.specs.Accepted.{Accepted}
 use Rattle.numbering.specs.Walk.{Tables, tables, ranks, started}
 use Rattle.numbering.specs.Promise.{TreeOf, BadUp, BadRoot, BadDown}
 use Rattle.numbering.specs.Visits.{visit}

@@ -11,7 +11,8 @@ use Rattle.chains.specs.Limits.{max-members}
 use Rattle.book.specs.Format.{kinds, grammar}
 use Rattle.book.specs.Reading.{told}
 use Rattle.bookcheck.specs.Search.{Tells}
-use Rattle.bookcheck.proofs.Accepted.{Accepted, told-kinds}
+use Rattle.bookcheck.specs.Accepted.{Accepted}
+use Rattle.bookcheck.proofs.Accepted.{told-kinds}
 use Rattle.bookcheck.proofs.Answers.{tells-yes, tells-no}
 use Rattle.numbering.specs.Walk.{tables}
 use Rattle.numbering.specs.Promise.{BigCount}

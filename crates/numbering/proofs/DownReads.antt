@@ -16,12 +16,13 @@ use Rattle.chains.proofs.Range.{root-in}
 use Rattle.chains.proofs.Nodes.{parent}
 use Rattle.chains.proofs.WellKinded.{sub-kinded, root-kids, one-tree}
 use Rattle.book.specs.Format.{grammar}
-use Rattle.bookcheck.proofs.Accepted.{Accepted}
+use Rattle.bookcheck.specs.Accepted.{Accepted}
 use Rattle.ranks.specs.Entries.{down-start, down-entry, labels, entry-bytes, none}
 use Rattle.ranks.specs.Reads.{found, past, down-number, DownFinds, down-said, child-rank-at}
 use Rattle.ranks.specs.declared.DownRead.{DownRead}
 use Rattle.ranks.specs.declared.DownRead.the-variants as read
-use Rattle.ranks.proofs.Padded.{CountsPadded, down-number-is}
+use Rattle.ranks.specs.Padded.{CountsPadded}
+use Rattle.ranks.proofs.Padded.{down-number-is}
 use Rattle.numbering.specs.Walk.{Tables, tables, ranks, given}
 use Rattle.numbering.specs.Promise.{TreeOf, BadDown, entry-at}
 use Rattle.numbering.specs.Visits.{entry-in, visit}

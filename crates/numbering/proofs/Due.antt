@@ -9,7 +9,7 @@ use lib.ListN.{length}
 use Rattle.lists.specs.Refusals.{accepted, refused, Sooner}
 use Rattle.chains.specs.Tree.{Bush, size}
 use Rattle.book.specs.Format.{grammar}
-use Rattle.sheet.specs.Reading.{settings-of}
+use Rattle.sheet.specs.Reading.{all-settings}
 use Rattle.sheet.specs.Trees.{Fits}
 use Rattle.sheet.proofs.Accepted.{accepted-sheet}
 use Rattle.admission.specs.Refusals as admission
@@ -47,7 +47,7 @@ long-enough {n} {m} h = go (decLe m n)
     go (no x) = absurd (h (omega arith))
 
 pub refuses-nothing : {b l : List ℕ} {T : Tables} {m : Lent} {n s : ℕ} → admission.AdmissionDue b l (measures T m) (accepted (n ∷ s ∷ []))
-    → Clear b l T m × (n ≡ length l) × (s ≡ settings-of (grammar b) l)
+    → Clear b l T m × (n ≡ length l) × (s ≡ all-settings (grammar b) l)
 refuses-nothing {b} {l} {T} {m} {n} {s} (e, none) =
     let (fits, en, es) = accepted-sheet b l n s (e, λ f a. none f (admission.of-sheet a)) in (
       record {

@@ -15,8 +15,9 @@ use Rattle.chains.specs.Grammar.{Grammar}
 use Rattle.book.specs.Format.{grammar, prods, kinds}
 use Rattle.book.specs.Reading as book
 use Rattle.book.specs.Reading.{kid-at}
-use Rattle.bookcheck.proofs.Accepted.{Accepted, settings-read}
-use Rattle.sheet.specs.Reading.{settings-of}
+use Rattle.bookcheck.specs.Accepted.{Accepted}
+use Rattle.bookcheck.proofs.Accepted.{settings-read}
+use Rattle.sheet.specs.Reading.{all-settings}
 use Rattle.numbering.specs.Walk.{Tables, tables, Held, held, numbered, unused, slot-labels, kid-labels}
 use Rattle.numbering.specs.Parts.{child-at, Children}
 use Rattle.numbering.specs.Giving.{labels-known, Firsts, Holding, Slot, kinds-width, Written, Kinds, Family}
@@ -73,23 +74,23 @@ module _ (G : Grammar) (T : Tables) (e : ℕ) (ks : List ℕ) (j : ℕ) (h : j <
 
 -- ── a node's settings in the list of all ──
 -- after the settings of node m are put there, those of every other node are as they were
-written-other : (G : Grammar) (l g : List ℕ) (m : ℕ) (ns : List ℕ) → m < length l → settings-of G l ≤ length g
+written-other : (G : Grammar) (l g : List ℕ) (m : ℕ) (ns : List ℕ) → m < length l → all-settings G l ≤ length g
     → length ns ≡ G .settings (G .left (getD l m 0)) → (n : ℕ) (us : List ℕ) → n < length l → (n ≡ m → ⊥) → Written G l g n us
-    → Written G l (place (settings-of G (take m l)) ns g) n us
+    → Written G l (place (all-settings G (take m l)) ns g) n us
 written-other G l g m ns h room e n us k d w = go (decLt n m)
   where
-    fits : settings-of G (take m l) + length ns ≤ length g
+    fits : all-settings G (take m l) + length ns ≤ length g
     fits = omega (arith, settings-inside G l m h)
 
-    go : Dec (n < m) → Written G l (place (settings-of G (take m l)) ns g) n us
-    go (yes q) = place-before g (settings-of G (take m l)) ns fits (settings-of G (take n l)) (G .settings (G .left (getD l n 0))) (settings-before G l n m q k) ∙ w
-    go (no q) = place-after g (settings-of G (take m l)) ns fits (settings-of G (take n l)) (G .settings (G .left (getD l n 0))) (omega (arith, settings-before G l m n (omega arith) h)) ∙ w
+    go : Dec (n < m) → Written G l (place (all-settings G (take m l)) ns g) n us
+    go (yes q) = place-before g (all-settings G (take m l)) ns fits (all-settings G (take n l)) (G .settings (G .left (getD l n 0))) (settings-before G l n m q k) ∙ w
+    go (no q) = place-after g (all-settings G (take m l)) ns fits (all-settings G (take n l)) (G .settings (G .left (getD l n 0))) (omega (arith, settings-before G l m n (omega arith) h)) ∙ w
 
-written-this : (G : Grammar) (l g : List ℕ) (m : ℕ) (ns : List ℕ) → m < length l → settings-of G l ≤ length g
-    → length ns ≡ G .settings (G .left (getD l m 0)) → Written G l (place (settings-of G (take m l)) ns g) m ns
+written-this : (G : Grammar) (l g : List ℕ) (m : ℕ) (ns : List ℕ) → m < length l → all-settings G l ≤ length g
+    → length ns ≡ G .settings (G .left (getD l m 0)) → Written G l (place (all-settings G (take m l)) ns g) m ns
 written-this G l g m ns h room e =
-    ap (λ n. part (settings-of G (take m l)) n (place (settings-of G (take m l)) ns g)) (sym e)
-    ∙ place-this g (settings-of G (take m l)) ns (omega (arith, settings-inside G l m h))
+    ap (λ n. part (all-settings G (take m l)) n (place (all-settings G (take m l)) ns g)) (sym e)
+    ∙ place-this g (all-settings G (take m l)) ns (omega (arith, settings-inside G l m h))
 
 -- what is put there for node m, and nothing else
 written-still : (G : Grammar) (l g g′ : List ℕ) (F : ℕ → List ℕ) (m : ℕ) → Written G l g′ m (F m)
@@ -111,13 +112,13 @@ pub record Naming (b l w : List ℕ) (e p at kids : ℕ) (ends firsts : List ℕ
   pub few : next ≤ first + max-settings * j
   pub low : first ≤ max-settings * max-nodes
   pub stands : child ≡ child-at ends i j
-  pub room : settings-of (grammar b) l ≤ length g₀
+  pub room : all-settings (grammar b) l ≤ length g₀
   pub long : length g ≡ length g₀
   pub stamps-long : length stamps ≡ labels-known
   pub numbers-long : length numbers ≡ labels-known
   pub first-stamps : length stamps₀ ≡ labels-known
   pub first-numbers : length numbers₀ ≡ labels-known
-  pub beyond : drop (settings-of (grammar b) l) g ≡ drop (settings-of (grammar b) l) g₀
+  pub beyond : drop (all-settings (grammar b) l) g ≡ drop (all-settings (grammar b) l) g₀
   pub given : (hs : List Held) (c d u : List ℕ) → Holding hs s stamps₀ numbers₀ →
       let T = tables c d u w in
       let xs = kid-labels (grammar b) T e 1 (take j (grammar b .kids p)) in
@@ -130,7 +131,7 @@ pub record Naming (b l w : List ℕ) (e p at kids : ℕ) (ends firsts : List ℕ
 
 pub naming-none : {b l w : List ℕ} {e p at kids : ℕ} {ends firsts : List ℕ} {i s first : ℕ} {stamps numbers g : List ℕ} → Opened b p at kids
     → Children ends i (length (grammar b .kids p)) → Kinds (grammar b) l ends i p → Firsts (grammar b) l firsts → first ≤ max-settings * max-nodes
-    → settings-of (grammar b) l ≤ length g → length stamps ≡ labels-known → length numbers ≡ labels-known
+    → all-settings (grammar b) l ≤ length g → length stamps ≡ labels-known → length numbers ≡ labels-known
     → Naming b l w e p at kids ends firsts i s first stamps numbers g stamps numbers g first (i + 1) 0
 unfolding child-at kid-labels numbered unused
 naming-none {ends = ends} {i = i} o c k f h r ls ln = record {
@@ -165,14 +166,14 @@ module _ {b l w : List ℕ} {e p at kids : ℕ} {ends firsts : List ℕ} {i s fi
     there = omega (arith, n .stands, n .kinds-are .there j here)
 
     -- the child's width, and where its settings stand
-    pub naming-width : {x width : ℕ} → x ≡ kid-at b at j → width ≡ book.settings-of b x → width ≡ grammar b .settings (getD (grammar b .kids p) j 0)
+    pub naming-width : {x width : ℕ} → x ≡ kid-at b at j → width ≡ book.all-settings b x → width ≡ grammar b .settings (getD (grammar b .kids p) j 0)
     naming-width {x} ex ew = ew ∙ settings-read (n .opened .accepted) x ∙ ap (λ y. grammar b .settings y) (kid-is (n .opened) j more ex)
 
     same-kind : grammar b .settings (grammar b .left (getD l child 0)) ≡ grammar b .settings (getD (grammar b .kids p) j 0)
     same-kind = ap (λ y. grammar b .settings y) (ap (λ y. grammar b .left (getD l y 0)) (n .stands) ∙ n .kinds-are .kind j here)
 
-    module _ {x width place-of : ℕ} (ex : x ≡ kid-at b at j) (ew : width ≡ book.settings-of b x) (ep : place-of ≡ getD firsts child 0) where
-      placed : place-of ≡ settings-of (grammar b) (take child l)
+    module _ {x width place-of : ℕ} (ex : x ≡ kid-at b at j) (ew : width ≡ book.all-settings b x) (ep : place-of ≡ getD firsts child 0) where
+      placed : place-of ≡ all-settings (grammar b) (take child l)
       placed = ep ∙ n .places-are .each child there
 
       pub naming-narrow : width ≤ max-settings
@@ -203,7 +204,7 @@ module _ {b l w : List ℕ} {e p at kids : ℕ} {ends firsts : List ℕ} {i s fi
         numbers-long = o .numbers-kept ∙ n .numbers-long;
         first-stamps = n .first-stamps;
         first-numbers = n .first-numbers;
-        beyond = o .beyond (settings-of (grammar b) l) (omega (arith, placed, naming-width ex ew, same-kind, settings-inside (grammar b) l child there)) ∙ n .beyond;
+        beyond = o .beyond (all-settings (grammar b) l) (omega (arith, placed, naming-width ex ew, same-kind, settings-inside (grammar b) l child there)) ∙ n .beyond;
         given = step;
       }
         where
@@ -234,14 +235,14 @@ module _ {b l w : List ℕ} {e p at kids : ℕ} {ends firsts : List ℕ} {i s fi
               let (hold, en, keep) = n .given hs c d u q in
               let hs′ = holding hs first a in
               let n′ = unused hs first a in
-              let o′ : Slot w e (suc j) v (settings-of (grammar b) (take child l)) s n′ stamps numbers g stamps′ numbers′ g′ next′
+              let o′ : Slot w e (suc j) v (all-settings (grammar b) (take child l)) s n′ stamps numbers g stamps′ numbers′ g′ next′
               = rw (← add-one j, ← es, ← naming-width ex ew, ← placed, ← en) o in
               let (hold′, en′, eg) = o′ .given hs′ c d u hold in
               let ls : kid-labels (grammar b) T e 1 (take (j + 1) ks) ≡ a ++ z = ap (λ m. kid-labels (grammar b) T e 1 (take m ks)) (add-one j) ∙ kids-more (grammar b) T e ks j here in
               let ns = numbered hs′ n′ z in
               let long : length ns ≡ grammar b .settings (grammar b .left (getD l child 0))
               = numbered-long hs′ n′ z ∙ slot-labels-long T e (suc j) 0 v ∙ sym same-kind in
-              let room : settings-of (grammar b) l ≤ length g = omega (arith, n .room, n .long) in
+              let room : all-settings (grammar b) l ≤ length g = omega (arith, n .room, n .long) in
               let others : (m : ℕ) (us : List ℕ) → m < length l → (m ≡ child → ⊥) → Written (grammar b) l g m us → Written (grammar b) l g′ m us
               = λ m us k d y. rw eg (written-other (grammar b) l g child ns there room long m us k d y) in
               rw ls (

@@ -8,7 +8,7 @@ use Rattle.chains.specs.Grammar.{Grammar}
 use Rattle.chains.specs.Tree.{Bush, size, Kinded}
 use Rattle.chains.proofs.Nodes.{sub-all}
 use Rattle.book.specs.Format.{grammar}
-use Rattle.sheet.specs.Reading.{settings-of}
+use Rattle.sheet.specs.Reading.{all-settings}
 use Rattle.numbering.specs.Walk.{Tables, tables, places, started}
 use Rattle.numbering.specs.Visits.{Visit, nowhere, rank-of, entry-in, journey, visit}
 use Rattle.numbering.specs.Parts.{Chosen}
@@ -57,6 +57,6 @@ filled {b} {l} {w} {plausible} {ends} {feasible} {entries} {n} told given = reco
         of = t;
         nodes = told ∙ ap (λ (xs : List ℕ). xs ++ drop (3 * length l) n) (ap (rows plausible feasible entries 0) (sym (tree-size t)) ∙ chosen-places (grammar b) T plausible feasible entries (t .tree) ends (t .kinded) ch);
         groups = groups;
-        counted = ap (λ (x : ℕ). length l ∷ settings-of (grammar b) l ∷ x ∷ []) counted;
+        counted = ap (λ (x : ℕ). length l ∷ all-settings (grammar b) l ∷ x ∷ []) counted;
       };
 }

@@ -7,7 +7,7 @@ use native.Mathlib.Omega.{arith}
 use lib.ListN.{length, getD, take, set, replicate, length-replicate, getD-replicate}
 use Rattle.chains.specs.Limits.{max-settings, max-nodes}
 use Rattle.chains.specs.Grammar.{Grammar}
-use Rattle.sheet.specs.Reading.{settings-of}
+use Rattle.sheet.specs.Reading.{all-settings}
 use Rattle.sheet.proofs.Reading.{settings-next}
 use Rattle.numbering.specs.Giving.{Firsts}
 use Rattle.numbering.proofs.Building.{Building, building-none, building-turn}
@@ -16,12 +16,12 @@ use Rattle.numbering.proofs.Building.{Building, building-none, building
 pub record Placing (G : Grammar) (l firsts : List ℕ) (next i : ℕ) : Type 0 where
   pub within : i ≤ length l
   pub few : length l ≤ max-nodes
-  pub built : Building (λ m. settings-of G (take m l)) (λ m. 0) max-nodes firsts i
-  pub sum : next ≡ settings-of G (take i l)
+  pub built : Building (λ m. all-settings G (take m l)) (λ m. 0) max-nodes firsts i
+  pub sum : next ≡ all-settings G (take i l)
   pub small : next ≤ max-settings * i
 
 pub placing-none : (G : Grammar) (l : List ℕ) → length l ≤ max-nodes → Placing G l (replicate max-nodes 0) 0 0
-unfolding settings-of
+unfolding all-settings
 placing-none G l h = record {
   within = omega arith;
   few = h;

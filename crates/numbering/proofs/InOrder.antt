@@ -12,7 +12,7 @@ use Rattle.chains.specs.Tree.{Bush, nil, grow, size, flat, Kinded, Inst, Sub}
 use Rattle.chains.specs.Numbering.{in-slot, occurrences, setting, Numbers}
 use Rattle.chains.specs.Numbering as rule
 use Rattle.chains.proofs.Nodes.{sub-one, flat-length}
-use Rattle.sheet.specs.Reading.{settings-of}
+use Rattle.sheet.specs.Reading.{all-settings}
 use Rattle.sheet.proofs.Reading.{settings-next}
 use Rattle.numbering.specs.Walk.{Tables, Held, entry-of, given, places, numbered, unused, slot-labels, kid-labels, held, own-held, Numbered, walk, root-entry, root-labels, started, group-numbers, ranks}
 use Rattle.numbering.specs.Places.{down-entry-of, place-of, number-of}
@@ -25,8 +25,8 @@ unfolding numbered
 numbered-long hs n [] = refl
 numbered-long hs n (x ∷ xs) = ap suc (numbered-long _ _ xs)
 
-settings-append : (G : Grammar) (l m : List ℕ) → settings-of G (l ++ m) ≡ settings-of G l + settings-of G m
-unfolding settings-of
+settings-append : (G : Grammar) (l m : List ℕ) → all-settings G (l ++ m) ≡ all-settings G l + all-settings G m
+unfolding all-settings
 settings-append G [] m = omega arith
 settings-append G (p ∷ l) m = let e = settings-append G l m in omega arith
 
@@ -76,8 +76,8 @@ module _ (G : Grammar) (T : Tables) where
       ∙ sym (length-map (occurrences G 1 (G .kids p)) (setting n cs)) ∙ ap length (kid-settings G n p cs k)
 
   walk-long : (f : Bush) (ks : List ℕ) (n : ℕ) (φ : ℕ → ℕ) (owns : List ℕ) (k : ℕ) → Kinded G f ks → length owns ≡ length (root-settings G f n)
-      → length (walk G T f φ owns k .list) ≡ settings-of G (flat f)
-  unfolding walk settings-of root-settings
+      → length (walk G T f φ owns k .list) ≡ all-settings G (flat f)
+  unfolding walk all-settings root-settings
   walk-long nil ks n φ owns k h e = refl
   walk-long (grow p cs rest) [] n φ owns k h e = absurd h
   walk-long (grow p cs rest) (x ∷ ks) n φ owns k h e =
@@ -95,7 +95,7 @@ module _ (G : Grammar) (T : Tables) where
   module _ (l nodes groups next : List ℕ) where
     -- the settings of the nodes before n
     abbrev before : ℕ → ℕ
-    before n = settings-of G (take n l)
+    before n = all-settings G (take n l)
 
     abbrev num : Inst → ℕ
     num x = number-of G l groups x
@@ -103,8 +103,8 @@ module _ (G : Grammar) (T : Tables) where
     before-next : (n p : ℕ) → n < length l → getD l n 0 ≡ p → before (suc n) ≡ before n + width G p 0
     before-next n p h e = settings-next G l n h ∙ ap (λ t. before n + G .settings (G .left t)) e
 
-    before-forest : (f : Bush) (n : ℕ) → Carries l n (flat f) → n + size f ≤ length l → before (n + size f) ≡ before n + settings-of G (flat f)
-    unfolding settings-of
+    before-forest : (f : Bush) (n : ℕ) → Carries l n (flat f) → n + size f ≤ length l → before (n + size f) ≡ before n + all-settings G (flat f)
+    unfolding all-settings
     before-forest nil n h b = let e : n + 0 ≡ n = omega arith in rw e (omega arith)
     before-forest (grow p cs rest) n h b =
         let h₁ = carries-rest l n p (flat cs ++ flat rest) h in
@@ -153,7 +153,7 @@ module _ (G : Grammar) (T : Tables) where
       numbers-long : length (numbered hs k xs) ≡ length (root-settings G cs (suc n))
       numbers-long = numbered-long hs k xs ∙ kids-long p n here cs below
 
-      inner-long : length (inner p cs φ owns k .list) ≡ settings-of G (flat cs)
+      inner-long : length (inner p cs φ owns k .list) ≡ all-settings G (flat cs)
       inner-long = walk-long cs (G .kids p) (suc n) (given T here) (numbered hs k xs) (unused hs k xs) below numbers-long
 
       -- the sheet: its own production, its children, the others
@@ -171,7 +171,7 @@ module _ (G : Grammar) (T : Tables) where
       before-children : before (suc n) ≡ before n + w
       before-children = before-next n p (omega (arith, h .fits)) its-own
 
-      before-others : before (suc (n + size cs)) ≡ before n + w + settings-of G (flat cs)
+      before-others : before (suc (n + size cs)) ≡ before n + w + all-settings G (flat cs)
       before-others =
           let e : suc n + size cs ≡ suc (n + size cs) = omega arith in
           let a = rw e at (before-forest cs (suc n) its-children (omega (arith, h .fits))) in
@@ -358,7 +358,7 @@ module _ (G : Grammar) (T : Tables) (k p : ℕ) (cs : Bush) (kinded : Kinded G (
 
   module _ (told : Carries nodes 0 (places G T tree (started G T tree))) (numbers : Carries groups 0 (group-numbers G T tree .list)) where
     walked : Walked G T sheet nodes groups next tree 0 (started G T tree) (first-numbers G T tree) (first-next G T tree)
-    unfolding settings-of
+    unfolding all-settings
     walked = record {
       told = told;
       sheet = λ j h. let e : 0 + j ≡ j = omega arith in rw e refl;

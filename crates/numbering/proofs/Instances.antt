@@ -7,7 +7,7 @@ use lib.ListN.{length, getD, take, drop}
 use Rattle.lists.specs.Part.{part}
 use Rattle.chains.specs.Grammar.{Grammar}
 use Rattle.book.specs.Format.{grammar}
-use Rattle.sheet.specs.Reading.{settings-of}
+use Rattle.sheet.specs.Reading.{all-settings}
 use Rattle.numbering.specs.Walk.{tables, Held, held, numbered, unused, slot-labels, kid-labels, own-held}
 use Rattle.numbering.specs.Giving.{labels-known, Holding, Held-own, Written, Family, Ready, Instance}
 use Rattle.numbering.proofs.Holders.{holding-none}
@@ -20,7 +20,7 @@ ready-fits {b} {places} {l} {ends} {firsts} {i} r e = omega (arith, r .places-ar
 
 module _ {G : Grammar} {l w : List ℕ} {e p : ℕ} {ends : List ℕ} {i s first width at : ℕ} {stamps numbers g stamps₁ numbers₁ stamps₂ numbers₂ g₂ : List ℕ} {r : ℕ}
     (ls : length stamps ≡ labels-known) (ln : length numbers ≡ labels-known) (es : s ≡ i + 2) (ep : p ≡ getD l i 0)
-    (ew : width ≡ G .settings (G .left (getD l i 0))) (ea : at ≡ settings-of G (take i l))
+    (ew : width ≡ G .settings (G .left (getD l i 0))) (ea : at ≡ all-settings G (take i l))
     (o : Held-own w e width at s g stamps numbers stamps₁ numbers₁) (f : Family G l w e p ends i s first stamps₁ numbers₁ g stamps₂ numbers₂ g₂ r) where
   -- the family, with its numbers as they are
   family : Family G l w e (getD l i 0) ends i s first stamps₁ numbers₁ g stamps₂ numbers₂ g₂ r
@@ -39,7 +39,7 @@ module _ {G : Grammar} {l w : List ℕ} {e p : ℕ} {ends : List ℕ} {i s first
     long = f .long;
     beyond = f .beyond;
     latest = λ h x.
-        let own = part (settings-of G (take i l)) (G .settings (G .left (getD l i 0))) g in
+        let own = part (all-settings G (take i l)) (G .settings (G .left (getD l i 0))) g in
         omega (arith, family .given (own-held G (tables [] [] [] w) (getD l i 0) e own) [] [] [] (holding-own h own [] [] [] refl) .0 .latest x);
     given = λ h own c d u ow. let (hold, er, keep) = family .given (own-held G (tables c d u w) (getD l i 0) e own) c d u (holding-own h own c d u ow) in (er, keep);
   }

@@ -11,7 +11,7 @@ use Rattle.lists.proofs.Parts.{getD-part}
 use Rattle.chains.specs.Grammar.{Grammar, width}
 use Rattle.chains.specs.Tree.{Bush, nil, grow, size, flat, Kinded, Root, Sub}
 use Rattle.chains.proofs.WellKinded.{sub-kinded}
-use Rattle.sheet.specs.Reading.{settings-of}
+use Rattle.sheet.specs.Reading.{all-settings}
 use Rattle.numbering.specs.Walk.{Tables, ranks, given, numbered, unused, slot-labels, root-entry, root-labels, started, group-numbers, walk, places}
 use Rattle.numbering.specs.Promise.{entry-at}
 use Rattle.numbering.specs.Visits.{Visit, nowhere, rank-of, entry-in, held-in, labels-in, handed, after, arrival, visits, journey, visit}
@@ -20,8 +20,8 @@ use Rattle.numbering.specs.Giving.{kinds-width}
 use Rattle.numbering.proofs.Visits.{owns-of, Seen, visits-long, sub-seen, root-visit, Linked, visits-linked, walk-owns}
 
 -- the settings of lists of nodes, one after another
-pub settings-append : (G : Grammar) (l m : List ℕ) → settings-of G (l ++ m) ≡ settings-of G l + settings-of G m
-unfolding settings-of
+pub settings-append : (G : Grammar) (l m : List ℕ) → all-settings G (l ++ m) ≡ all-settings G l + all-settings G m
+unfolding all-settings
 settings-append G [] m = omega arith
 settings-append G (p ∷ l) m = omega (arith, settings-append G l m)
 
@@ -59,8 +59,8 @@ module _ (G : Grammar) (T : Tables) where
 
   -- ── the numbers in use are no more than the settings ──
   pub walk-few : (f : Bush) (ks : List ℕ) (φ : ℕ → ℕ) (owns : List ℕ) (n : ℕ) → Kinded G f ks
-      → walk G T f φ owns n .next + kinds-width G ks ≤ n + settings-of G (flat f)
-  unfolding walk kinds-width settings-of
+      → walk G T f φ owns n .next + kinds-width G ks ≤ n + all-settings G (flat f)
+  unfolding walk kinds-width all-settings
   walk-few nil [] φ owns n k = omega arith
   walk-few nil (x ∷ ks) φ owns n k = absurd k
   walk-few (grow p cs rest) [] φ owns n k = absurd k
@@ -132,7 +132,7 @@ module _ (G : Grammar) (T : Tables) where
     pub entry-visited : (i : ℕ) → i < size f → entry-at G T f i ≡ entry-in G T (visit G T f i)
     entry-visited i h = ap (λ l. getD l (3 * i + 2) 0) places-journey ∙ told-entry (journey G T f) i (omega (arith, journey-long))
 
-    pub groups-few : group-numbers G T f .next ≤ settings-of G (flat f)
+    pub groups-few : group-numbers G T f .next ≤ all-settings G (flat f)
     unfolding root-labels kinds-width
     groups-few =
         let a = walk-few f (G .start ∷ []) (started G T f) (numbered [] 0 (root-labels G T f)) (unused [] 0 (root-labels G T f)) kinded in

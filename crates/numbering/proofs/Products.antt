@@ -12,7 +12,8 @@ use Rattle.chains.specs.Limits.{max-kids, max-prods}
 use Rattle.book.specs.Format.{grammar, prods}
 use Rattle.ranks.specs.Entries.{choices, up-start, down-start}
 use Rattle.ranks.specs.Reads.{from}
-use Rattle.ranks.proofs.Padded.{CountsPadded, choices-padded}
+use Rattle.ranks.specs.Padded.{CountsPadded}
+use Rattle.ranks.proofs.Padded.{choices-padded}
 use Rattle.numbering.specs.Parts.{UpStarts, DownStarts}
 use Rattle.numbering.proofs.Building.{Building, building-none, building-turn}
 

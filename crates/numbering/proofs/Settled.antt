@@ -8,8 +8,8 @@ use Rattle.lists.specs.Refusals.{Said, accepted, refused}
 use Rattle.book.specs.Format.{grammar}
 use Rattle.book.specs.Reading.{Index}
 use Rattle.bookcheck.specs.Search.{Tells}
-use Rattle.bookcheck.proofs.Accepted.{Accepted}
-use Rattle.sheet.specs.Reading.{settings-of}
+use Rattle.bookcheck.specs.Accepted.{Accepted}
+use Rattle.sheet.specs.Reading.{all-settings}
 use Rattle.sheet.proofs.Accepted.{book-accepted}
 use Rattle.admission.specs.Refusals.{AdmissionDue}
 use Rattle.admission.specs.Answer as admission-answer
@@ -26,7 +26,7 @@ use Rattle.numbering.proofs.Due.{tree-of, refuses-early, refuses-nothin
 
 -- what the admission said of the slices that it measured
 module _ {b l : List ℕ} (T : Tables) (m : Lent) {r : Admission} (due : AdmissionDue b l (measures T m) (admission-answer.said r)) where
-  pub let-in : {n s : ℕ} → r ≡ Admitted n s → Clear b l T m × (n ≡ length l) × (s ≡ settings-of (grammar b) l)
+  pub let-in : {n s : ℕ} → r ≡ Admitted n s → Clear b l T m × (n ≡ length l) × (s ≡ all-settings (grammar b) l)
   let-in e = refuses-nothing (subst (λ (x : Admission). AdmissionDue b l (measures T m) (admission-answer.said x)) e due)
 
   pub kept-out : {n p : ℕ} → r ≡ Refused n p → CallDue b l T m (refused n p) m
@@ -63,7 +63,7 @@ module _ {b l c d u w : List ℕ} {m : Lent} (clear : Clear b l (tables c d u w)
 -- everything is written
 pub settled-well : {b l c d u w n g : List ℕ} → Clear b l (tables c d u w) (lent n g) → {r : Bool} → Tells (BigCount (grammar b) (tables c d [] [])) r → r ≡ false
     → {plausible ends feasible entries : List ℕ} {o : Reads} → Choice b l c d u w plausible ends feasible entries o → o ≡ All
-    → {count settings : ℕ} → count ≡ length l → settings ≡ settings-of (grammar b) l
+    → {count settings : ℕ} → count ≡ length l → settings ≡ all-settings (grammar b) l
     → {n′ g′ : List ℕ} {used : ℕ} → Filled b l w plausible ends feasible entries n g n′ g′ used
     → {s : Said} → s ≡ accepted (count ∷ settings ∷ used ∷ []) → CallDue b l (tables c d u w) (lent n g) s (lent n′ g′)
 settled-well {b} {l} {c} {d} {u} {w} {n} {g} clear tells small {plausible} {ends} {feasible} {entries} choice e en es {n′} {g′} {used} filled said =

@@ -16,7 +16,7 @@ use Rattle.chains.specs.Tree.{Bush, nil, grow, size, count, Kinded, Root, Sub}
 use Rattle.chains.proofs.Range.{root-in, root-exists}
 use Rattle.chains.proofs.Nodes.{sub-in, sub-child}
 use Rattle.chains.proofs.WellKinded.{kinded-count}
-use Rattle.ranks.proofs.Padded.{RanksPadded}
+use Rattle.ranks.specs.Padded.{RanksPadded}
 use Rattle.numbering.specs.Walk.{Tables, ranks}
 use Rattle.numbering.specs.Visits.{rank-of}
 use Rattle.numbering.specs.Parts.{child-at, Children, Kindred, Ended, Ranked}

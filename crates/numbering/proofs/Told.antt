@@ -35,18 +35,18 @@ module _ (G : Grammar) (T : Tables) where
 
   module _ (nodes : List ℕ) where
     -- the forest at n is told of from its own places on; φ j is the feasible rank of its j-th root
-    abbrev Told : Bush → ℕ → (ℕ → ℕ) → Type 0
-    Told f n φ = Carries nodes (3 * n) (places G T f φ)
+    abbrev NodesTold : Bush → ℕ → (ℕ → ℕ) → Type 0
+    NodesTold f n φ = Carries nodes (3 * n) (places G T f φ)
 
     -- a first tree's root, its children and the other trees
     pub record Parts (p : ℕ) (cs rest : Bush) (n : ℕ) (φ : ℕ → ℕ) : Type 0 where
       pub plausible : plausible-rank nodes n ≡ read-rank p cs
       pub feasible : feasible-rank nodes n ≡ φ 0
       pub entry : down-entry-of nodes n ≡ entry-of G T p (φ 0) cs
-      pub children : Told cs (suc n) (given T (entry-of G T p (φ 0) cs))
-      pub others : Told rest (suc (n + size cs)) (λ j. φ (suc j))
+      pub children : NodesTold cs (suc n) (given T (entry-of G T p (φ 0) cs))
+      pub others : NodesTold rest (suc (n + size cs)) (λ j. φ (suc j))
 
-    pub parts : (p : ℕ) (cs rest : Bush) (n : ℕ) (φ : ℕ → ℕ) → Told (grow p cs rest) n φ → Parts p cs rest n φ
+    pub parts : (p : ℕ) (cs rest : Bush) (n : ℕ) (φ : ℕ → ℕ) → NodesTold (grow p cs rest) n φ → Parts p cs rest n φ
     unfolding places
     parts p cs rest n φ h =
         let e = entry-of G T p (φ 0) cs in
@@ -68,13 +68,13 @@ module _ (G : Grammar) (T : Tables) where
         }
 
     -- the roots have the feasible ranks that they are given
-    pub roots-told : (f : Bush) (n : ℕ) (φ : ℕ → ℕ) → Told f n φ → (j m : ℕ) → Root f n j m → feasible-rank nodes m ≡ φ j
+    pub roots-told : (f : Bush) (n : ℕ) (φ : ℕ → ℕ) → NodesTold f n φ → (j m : ℕ) → Root f n j m → feasible-rank nodes m ≡ φ j
     roots-told nil n φ h j m r = absurd r
     roots-told (grow p cs rest) n φ h zero m r = rw r (parts p cs rest n φ h .feasible)
     roots-told (grow p cs rest) n φ h (suc j) m r = roots-told rest (suc (n + size cs)) (λ j. φ (suc j)) (parts p cs rest n φ h .others) j m r
 
     -- and the plausible ranks that are read for them
-    pub ranks-told : (f : Bush) (n : ℕ) (φ : ℕ → ℕ) → Told f n φ → ranks G T f ≡ map (plausible-rank nodes) (roots f n)
+    pub ranks-told : (f : Bush) (n : ℕ) (φ : ℕ → ℕ) → NodesTold f n φ → ranks G T f ≡ map (plausible-rank nodes) (roots f n)
     unfolding ranks
     ranks-told nil n φ h = refl
     ranks-told (grow p cs rest) n φ h =
@@ -82,7 +82,7 @@ module _ (G : Grammar) (T : Tables) where
         ap₂ _∷_ (sym (t .plausible)) (ranks-told rest (suc (n + size cs)) (λ j. φ (suc j)) (t .others))
 
     -- THEOREM: every node is told of at its number
-    pub visited : (f : Bush) (n : ℕ) (φ : ℕ → ℕ) → Told f n φ → (i q : ℕ) (ds : Bush) → Sub f n i q ds → Visited nodes i q ds
+    pub visited : (f : Bush) (n : ℕ) (φ : ℕ → ℕ) → NodesTold f n φ → (i q : ℕ) (ds : Bush) → Sub f n i q ds → Visited nodes i q ds
     visited nil n φ h i q ds s = absurd s
     visited (grow p cs rest) n φ h i q ds (inl (ei, ep, ec)) = rw (ei, ← ep, ← ec) here
       where

@@ -12,8 +12,8 @@ use Rattle.chains.proofs.Nodes.{flat-length, sub-all, sub-flat, sub-in}
 use Rattle.chains.proofs.WellKinded.{sub-kinded}
 use Rattle.chains.proofs.Read.{one-forest}
 use Rattle.book.specs.Format.{grammar, prods}
-use Rattle.bookcheck.proofs.Accepted.{Accepted}
-use Rattle.sheet.specs.Reading.{settings-of}
+use Rattle.bookcheck.specs.Accepted.{Accepted}
+use Rattle.sheet.specs.Reading.{all-settings}
 use Rattle.numbering.specs.Promise.{TreeOf}
 
 -- one sheet, one tree
@@ -45,19 +45,19 @@ module _ {G : Grammar} {l : List ℕ} (t : TreeOf G l) where
 
 -- ── settings ──
 -- those of an earlier node stand before those of a later one
-pub settings-before : (G : Grammar) (l : List ℕ) (m n : ℕ) → m < n → m < length l → settings-of G (take m l) + G .settings (G .left (getD l m 0)) ≤ settings-of G (take n l)
-unfolding settings-of
+pub settings-before : (G : Grammar) (l : List ℕ) (m n : ℕ) → m < n → m < length l → all-settings G (take m l) + G .settings (G .left (getD l m 0)) ≤ all-settings G (take n l)
+unfolding all-settings
 settings-before G [] m n h k = absurd (omega arith)
 settings-before G (p ∷ l) zero zero h k = absurd (omega arith)
 settings-before G (p ∷ l) zero (suc n) h k = omega arith
 settings-before G (p ∷ l) (suc m) zero h k = absurd (omega arith)
 settings-before G (p ∷ l) (suc m) (suc n) h k = let r = settings-before G l m n (omega arith) (omega arith) in omega arith
 
-pub settings-inside : (G : Grammar) (l : List ℕ) (m : ℕ) → m < length l → settings-of G (take m l) + G .settings (G .left (getD l m 0)) ≤ settings-of G l
+pub settings-inside : (G : Grammar) (l : List ℕ) (m : ℕ) → m < length l → all-settings G (take m l) + G .settings (G .left (getD l m 0)) ≤ all-settings G l
 settings-inside G l m h = rw (take-all (length l) l (omega arith)) at (settings-before G l m (length l) h h)
 
 -- the root's are the first
-pub root-inside : (G : Grammar) (l : List ℕ) {w n : ℕ} → w ≡ G .settings (G .left (getD l 0 0)) → 1 ≤ length l → settings-of G l ≤ n → 0 + w ≤ n
+pub root-inside : (G : Grammar) (l : List ℕ) {w n : ℕ} → w ≡ G .settings (G .left (getD l 0 0)) → 1 ≤ length l → all-settings G l ≤ n → 0 + w ≤ n
 root-inside G l e h k = omega (arith, e, settings-inside G l 0 h, k)
 
 -- a node of an accepted book has few

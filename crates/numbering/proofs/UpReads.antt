@@ -11,13 +11,14 @@ use Rattle.chains.specs.Limits.{max-kids, max-nodes}
 use Rattle.chains.specs.Tree.{Bush, size, Kinded, Sub}
 use Rattle.chains.proofs.Nodes.{sub-in, sub-one}
 use Rattle.book.specs.Format.{grammar, prods}
-use Rattle.bookcheck.proofs.Accepted.{Accepted}
+use Rattle.bookcheck.specs.Accepted.{Accepted}
 use Rattle.ranks.specs.Entries.{up-start, up-entry, none}
 use Rattle.ranks.specs.Reads.{Found, found, past, up-number, UpFinds, up-said}
 use Rattle.ranks.specs.declared.Plausible.{Plausible}
 use Rattle.ranks.specs.declared.UpRead.{UpRead}
 use Rattle.ranks.specs.declared.UpRead.the-variants as read
-use Rattle.ranks.proofs.Padded.{CountsPadded, RanksPadded, up-number-is}
+use Rattle.ranks.specs.Padded.{CountsPadded, RanksPadded}
+use Rattle.ranks.proofs.Padded.{up-number-is}
 use Rattle.numbering.specs.Walk.{Tables, tables, ranks}
 use Rattle.numbering.specs.Promise.{TreeOf, BadUp}
 use Rattle.numbering.specs.Visits.{rank-of}

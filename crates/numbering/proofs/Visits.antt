@@ -12,7 +12,7 @@ use Rattle.lists.proofs.Parts.{getD-part}
 use Rattle.chains.specs.Grammar.{Grammar, width}
 use Rattle.chains.specs.Tree.{Bush, nil, grow, size, flat, Kinded, Root, Sub}
 use Rattle.chains.proofs.Nodes.{sub-in}
-use Rattle.sheet.specs.Reading.{settings-of}
+use Rattle.sheet.specs.Reading.{all-settings}
 use Rattle.numbering.specs.Walk.{Tables, ranks, entry-of, given, Held, numbered, unused, root-labels, Numbered, started, group-numbers, walk, places}
 use Rattle.numbering.specs.Visits.{Visit, nowhere, rank-of, entry-in, held-in, labels-in, handed, after, arrival, visits, journey, visit}
 use Rattle.numbering.proofs.Labelled.{unused-bounds, slot-labels-long, kid-labels-long}

@@ -19,8 +19,8 @@ use Rattle.chains.proofs.Nodes.{parent, sub-in, sub-child}
 use Rattle.chains.proofs.WellKinded.{sub-kinded, root-kids, root-kind, one-tree}
 use Rattle.book.specs.Format.{grammar, prods}
 use Rattle.book.specs.Reading.{Index}
-use Rattle.bookcheck.proofs.Accepted.{Accepted}
-use Rattle.sheet.specs.Reading.{settings-of}
+use Rattle.bookcheck.specs.Accepted.{Accepted}
+use Rattle.sheet.specs.Reading.{all-settings}
 use Rattle.sheet.proofs.Reading.{settings-next}
 use Rattle.numbering.specs.Walk.{Tables, tables, numbered, unused, slot-labels, kid-labels, own-held, root-labels, group-numbers}
 use Rattle.numbering.specs.Promise.{TreeOf}
@@ -35,13 +35,13 @@ use Rattle.numbering.proofs.Standing.{stands, child-root, children-of, 
 use Rattle.numbering.proofs.Trees.{tree-size, byte-is, Node, node-at, settings-inside, few-settings}
 
 -- ── numbers written for every node are all numbers ──
-module _ (G : Grammar) (l g : List ℕ) (vs : List Visit) (long : length vs ≡ length l) (room : settings-of G l ≤ length g)
+module _ (G : Grammar) (l g : List ℕ) (vs : List Visit) (long : length vs ≡ length l) (room : all-settings G l ≤ length g)
     (each : (m : ℕ) → m < length l → Written G l g m (getD vs m nowhere .own)) where
-  written-front : (m : ℕ) → m ≤ length l → take (settings-of G (take m l)) g ≡ owns-of (take m vs)
-  unfolding settings-of owns-of
+  written-front : (m : ℕ) → m ≤ length l → take (all-settings G (take m l)) g ≡ owns-of (take m vs)
+  unfolding all-settings owns-of
   written-front zero h = refl
   written-front (suc m) h =
-      let a = settings-of G (take m l) in
+      let a = all-settings G (take m l) in
       let w = G .settings (G .left (getD l m 0)) in
       ap (λ n. take n g) (settings-next G l m h)
       ∙ take-add a w g
@@ -50,14 +50,14 @@ module _ (G : Grammar) (l g : List ℕ) (vs : List Visit) (long : length vs ≡ 
       ∙ sym (owns-append (take m vs) (getD vs m nowhere ∷ []))
       ∙ ap owns-of (sym (take-suc vs m nowhere (omega arith)))
 
-  written-all : g ≡ owns-of vs ++ drop (settings-of G l) g
+  written-all : g ≡ owns-of vs ++ drop (all-settings G l) g
   written-all =
       let f = written-front (length l) (omega arith) in
-      let f′ : take (settings-of G l) g ≡ owns-of vs = ap (λ t. take (settings-of G t) g) (sym (take-length l)) ∙ f ∙ ap owns-of (take-all (length l) vs (omega arith)) in
-      sym (take-append-drop (settings-of G l) g) ∙ ap (λ t. t ++ drop (settings-of G l) g) f′
+      let f′ : take (all-settings G l) g ≡ owns-of vs = ap (λ t. take (all-settings G t) g) (sym (take-length l)) ∙ f ∙ ap owns-of (take-all (length l) vs (omega arith)) in
+      sym (take-append-drop (all-settings G l) g) ∙ ap (λ t. t ++ drop (all-settings G l) g) f′
 
-settings-few : (G : Grammar) (k : ℕ) (l : List ℕ) → ((i : ℕ) → i < length l → G .settings (G .left (getD l i 0)) ≤ k) → settings-of G l ≤ k * length l
-unfolding settings-of
+settings-few : (G : Grammar) (k : ℕ) (l : List ℕ) → ((i : ℕ) → i < length l → G .settings (G .left (getD l i 0)) ≤ k) → all-settings G l ≤ k * length l
+unfolding all-settings
 settings-few G k [] h = omega arith
 settings-few G k (p ∷ l) h =
     let r = settings-few G k l (λ i m. h (suc i) (omega arith)) in
@@ -73,9 +73,9 @@ pub record Walking (b l w ends entries g₀ stamps numbers g : List ℕ) (next i
   pub stamps-long : length stamps ≡ labels-known
   pub numbers-long : length numbers ≡ labels-known
   pub latest : (x : ℕ) → getD stamps x 0 ≤ i + 1
-  pub room : settings-of (grammar b) l ≤ length g₀
+  pub room : all-settings (grammar b) l ≤ length g₀
   pub long : length g ≡ length g₀
-  pub beyond : drop (settings-of (grammar b) l) g ≡ drop (settings-of (grammar b) l) g₀
+  pub beyond : drop (all-settings (grammar b) l) g ≡ drop (all-settings (grammar b) l) g₀
   pub walked : (t : TreeOf (grammar b) l) (c d u : List ℕ) → Ended (t .tree) 0 0 ends → Entered (grammar b) (tables c d u w) (t .tree) entries
       → Linked (grammar b) (tables c d u w) next (drop i (journey (grammar b) (tables c d u w) (t .tree))) (group-numbers (grammar b) (tables c d u w) (t .tree) .next)
       × Written (grammar b) l g 0 (visit (grammar b) (tables c d u w) (t .tree) 0 .own)
@@ -93,11 +93,11 @@ none-held : Holding [] 1 (replicate labels-known 0) (replicate labels-known 0)
 none-held = holding-none (length-replicate {A = ℕ} labels-known 0) (length-replicate {A = ℕ} labels-known 0) zeros
 
 -- the root's own settings are numbered first
-module _ {b l w ends entries g stamps numbers g′ : List ℕ} {e wide r : ℕ} (sheeted : Sheeted b l) (room : settings-of (grammar b) l ≤ length g)
+module _ {b l w ends entries g stamps numbers g′ : List ℕ} {e wide r : ℕ} (sheeted : Sheeted b l) (room : all-settings (grammar b) l ≤ length g)
     (ee : e ≡ getD entries 0 0) (ew : wide ≡ grammar b .settings (grammar b .left (getD l 0 0)))
     (o : Slot w e 0 wide 0 1 0 (replicate labels-known 0) (replicate labels-known 0) g stamps numbers g′ r) where
   pub walking-begins : Walking b l w ends entries g′ stamps numbers g′ r 0
-  unfolding settings-of
+  unfolding all-settings
   walking-begins = record {
     within = omega arith;
     few = sheeted .few;
@@ -124,14 +124,14 @@ module _ {b l w ends entries g stamps numbers g′ : List ℕ} {e wide r : ℕ} 
         );
   }
     where
-      nothing : settings-of (grammar b) (take 0 l) ≡ 0
+      nothing : all-settings (grammar b) (take 0 l) ≡ 0
       nothing = refl
 
       first : (T : Tables) {own : List ℕ} → numbered [] 0 (slot-labels T e 0 0 wide) ≡ own → g′ ≡ place 0 (numbered [] 0 (slot-labels T e 0 0 wide)) g → Written (grammar b) l g′ 0 own
       first T {own} ns eg =
           let numbers-of = numbered [] 0 (slot-labels T e 0 0 wide) in
           let long : length numbers-of ≡ grammar b .settings (grammar b .left (getD l 0 0)) = numbered-long [] 0 (slot-labels T e 0 0 wide) ∙ slot-labels-long T e 0 0 wide ∙ ew in
-          let z : settings-of (grammar b) (take 0 l) ≡ 0 = nothing in
+          let z : all-settings (grammar b) (take 0 l) ≡ 0 = nothing in
           let fits : 0 + length numbers-of ≤ length g = omega (arith, settings-inside (grammar b) l 0 (sheeted .some), room) in
           ap₂ (λ x y. part x y g′) z (sym long) ∙ ap (part 0 (length numbers-of)) eg ∙ place-this g 0 numbers-of fits ∙ ns
 
@@ -142,7 +142,7 @@ module _ {b l w ends entries g stamps numbers g′ : List ℕ} {e wide r : ℕ} 
         let (er, eg) = a .all t c d u en ent in (
           er,
           eg ∙ ap (λ s. group-numbers (grammar b) (tables c d u w) (t .tree) .list ++ s)
-              (o .beyond (settings-of (grammar b) l) (omega (arith, ew, settings-inside (grammar b) l 0 (sheeted .some)))),
+              (o .beyond (all-settings (grammar b) l) (omega (arith, ew, settings-inside (grammar b) l 0 (sheeted .some)))),
         );
   }
 
@@ -196,7 +196,7 @@ module _ {b l w ends entries g₀ stamps numbers g : List ℕ} {next i : ℕ} (k
         let linked = k .walked t (walkable .counts) (walkable .feasible-counts) (walkable .up) (walkable .ended) (walkable .entered) .0 in
         let rises = linked-rises (grammar b) T (drop i (journey (grammar b) T (t .tree))) next (group-numbers (grammar b) T (t .tree) .next) linked in
         let groups = groups-few (grammar b) T (t .tree) (t .kinded) in
-        let all : settings-of (grammar b) (flat (t .tree)) ≡ settings-of (grammar b) l = ap (settings-of (grammar b)) (t .reads) in
+        let all : all-settings (grammar b) (flat (t .tree)) ≡ all-settings (grammar b) l = ap (all-settings (grammar b)) (t .reads) in
         let most = settings-few (grammar b) max-settings l (λ m h. few-settings acc (getD l m 0) (node-at t m h .known)) in
         omega (arith, k .few)
 

@@ -4,7 +4,7 @@ use Prim.Native.Nat.{ℕ, _*_, _≤_}
 use lib.ListN.{length}
 use Rattle.lists.specs.Refusals.{First}
 use Rattle.book.specs.Format.{kinds, grammar}
-use Rattle.sheet.specs.Reading.{settings-of}
+use Rattle.sheet.specs.Reading.{all-settings}
 use Rattle.sheet.specs.Trees.{Fits}
 use Rattle.admission.specs.Refusals as admission
 use Rattle.numbering.specs.Walk.{Tables}
@@ -21,7 +21,7 @@ pub record Clear (b l : List ℕ) (T : Tables) (m : Lent) : Type 0 where
   pub plausible-counts : kinds b ≤ length (T .plausible-counts)
   pub feasible-counts : kinds b ≤ length (T .feasible-counts)
   pub nodes : 3 * length l ≤ length (m .nodes)
-  pub groups : settings-of (grammar b) l ≤ length (m .groups)
+  pub groups : all-settings (grammar b) l ≤ length (m .groups)
 
 -- refusal n at the place p is due
 abbrev pub Refuses : List ℕ → List ℕ → Tables → Lent → ℕ → ℕ → Type 0

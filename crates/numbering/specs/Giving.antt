@@ -10,7 +10,7 @@ use Rattle.chains.specs.Limits.{max-settings, max-nodes}
 use Rattle.chains.specs.Grammar.{Grammar}
 use Rattle.chains.specs.Tree.{Bush, size}
 use Rattle.book.specs.Format.{prods, grammar}
-use Rattle.sheet.specs.Reading.{settings-of}
+use Rattle.sheet.specs.Reading.{all-settings}
 use Rattle.numbering.specs.Walk.{Tables, tables, Held, holder, holds, held, numbered, unused, slot-labels, kid-labels, own-held, group-numbers}
 use Rattle.numbering.specs.Promise.{TreeOf, lent, Grouped}
 use Rattle.numbering.specs.Visits.{entry-in, visit}
@@ -24,7 +24,7 @@ rows plausible feasible entries i (suc n) = getD plausible i 0 ∷ getD feasible
 -- firsts has the place of each node's first setting among those of the sheet l
 pub record Firsts (G : Grammar) (l firsts : List ℕ) : Type 0 where
   pub long : length firsts ≡ max-nodes
-  pub each : (m : ℕ) → m < length l → getD firsts m 0 ≡ settings-of G (take m l)
+  pub each : (m : ℕ) → m < length l → getD firsts m 0 ≡ all-settings G (take m l)
 
 -- ── who holds a label ──
 abbrev pub labels-known : ℕ
@@ -71,7 +71,7 @@ kinds-width G (k ∷ ks) = G .settings k + kinds-width G ks
 
 -- those of node m of the sheet l have the numbers ns in g
 abbrev pub Written : Grammar → List ℕ → List ℕ → ℕ → List ℕ → Type 0
-Written G l g m ns = part (settings-of G (take m l)) (G .settings (G .left (getD l m 0))) g ≡ ns
+Written G l g m ns = part (all-settings G (take m l)) (G .settings (G .left (getD l m 0))) g ≡ ns
 
 -- the children of node i, of production p, are nodes of the sheet, of the kinds that p says
 pub record Kinds (G : Grammar) (l ends : List ℕ) (i p : ℕ) : Type 0 where
@@ -83,7 +83,7 @@ pub record Family (G : Grammar) (l w : List ℕ) (e p : ℕ) (ends : List ℕ) (
   pub stamps-kept : length stamps′ ≡ length stamps
   pub numbers-kept : length numbers′ ≡ length numbers
   pub long : length g′ ≡ length g
-  pub beyond : drop (settings-of G l) g′ ≡ drop (settings-of G l) g
+  pub beyond : drop (all-settings G l) g′ ≡ drop (all-settings G l) g
   pub given : (hs : List Held) (c d u : List ℕ) → Holding hs s stamps numbers →
       let xs = kid-labels G (tables c d u w) e 1 (G .kids p) in
       Holding (hs ++ held xs (numbered hs next xs)) s stamps′ numbers′ × (r ≡ unused hs next xs)
@@ -101,14 +101,14 @@ pub record Ready (b places l ends firsts : List ℕ) (i next : ℕ) (g : List �
   pub children : Children ends i (length (grammar b .kids (getD l i 0)))
   pub kinds-are : Kinds (grammar b) l ends i (getD l i 0)
   pub places-are : Firsts (grammar b) l firsts
-  pub room : settings-of (grammar b) l ≤ length g
+  pub room : all-settings (grammar b) l ≤ length g
 
 -- node i is visited: its own settings hold their labels, then its children's settings are numbered; F m are the numbers that node m is to have
 pub record Instance (G : Grammar) (l w : List ℕ) (e : ℕ) (ends : List ℕ) (i next : ℕ) (stamps numbers g stamps′ numbers′ g′ : List ℕ) (r : ℕ) : Type 0 where
   pub stamps-kept : length stamps′ ≡ length stamps
   pub numbers-kept : length numbers′ ≡ length numbers
   pub long : length g′ ≡ length g
-  pub beyond : drop (settings-of G l) g′ ≡ drop (settings-of G l) g
+  pub beyond : drop (all-settings G l) g′ ≡ drop (all-settings G l) g
   pub latest : ((x : ℕ) → getD stamps x 0 ≤ i + 1) → (x : ℕ) → getD stamps′ x 0 ≤ i + 2
   pub given : ((x : ℕ) → getD stamps x 0 ≤ i + 1) → (own c d u : List ℕ) → Written G l g i own →
       let p = getD l i 0 in
@@ -136,9 +136,9 @@ pub record Walkable (b l w ends entries : List ℕ) : Type 0 where
 pub record Given (b l w ends entries g g′ : List ℕ) (r : ℕ) : Type 0 where
   pub all : (t : TreeOf (grammar b) l) (c d u : List ℕ) → Ended (t .tree) 0 0 ends → Entered (grammar b) (tables c d u w) (t .tree) entries
       → (r ≡ group-numbers (grammar b) (tables c d u w) (t .tree) .next)
-      × (g′ ≡ group-numbers (grammar b) (tables c d u w) (t .tree) .list ++ drop (settings-of (grammar b) l) g)
+      × (g′ ≡ group-numbers (grammar b) (tables c d u w) (t .tree) .list ++ drop (all-settings (grammar b) l) g)
 
 -- what is written once the choice is made
 pub record Filled (b l w plausible ends feasible entries n g n′ g′ : List ℕ) (r : ℕ) : Type 0 where
   pub all : (t : TreeOf (grammar b) l) (c d u : List ℕ) → Chosen (grammar b) (tables c d u w) (t .tree) plausible ends feasible entries
-      → Grouped (grammar b) l (tables c d u w) (lent n g) (lent n′ g′) (length l ∷ settings-of (grammar b) l ∷ r ∷ [])
+      → Grouped (grammar b) l (tables c d u w) (lent n g) (lent n′ g′) (length l ∷ all-settings (grammar b) l ∷ r ∷ [])

@@ -11,7 +11,7 @@ use Rattle.chains.specs.Grammar.{Grammar}
 use Rattle.chains.specs.Tree.{Bush, size, Kinded, Sub}
 use Rattle.book.specs.Format.{grammar, prods}
 use Rattle.book.specs.Reading.{Index}
-use Rattle.bookcheck.proofs.Accepted.{Accepted}
+use Rattle.bookcheck.specs.Accepted.{Accepted}
 use Rattle.ranks.specs.Entries.{up-start, down-start}
 use Rattle.ranks.specs.Reads.{child-rank-at}
 use Rattle.numbering.specs.Walk.{Tables, tables, started}

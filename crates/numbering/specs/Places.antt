@@ -4,7 +4,7 @@ use Prim.Native.Nat.{ℕ, _+_, _*_}
 use lib.ListN.{getD, take}
 use Rattle.chains.specs.Grammar.{Grammar}
 use Rattle.chains.specs.Tree.{Inst}
-use Rattle.sheet.specs.Reading.{settings-of}
+use Rattle.sheet.specs.Reading.{all-settings}
 
 -- the plausible rank, the feasible rank and the down entry of node i
 abbrev pub plausible-rank : List ℕ → ℕ → ℕ
@@ -18,7 +18,7 @@ down-entry-of nodes i = getD nodes (3 * i + 2) 0
 
 -- the place of a setting: behind the settings of all nodes before its own
 abbrev pub place-of : Grammar → List ℕ → Inst → ℕ
-place-of G l x = settings-of G (take (x .0) l) + x .1
+place-of G l x = all-settings G (take (x .0) l) + x .1
 
 -- the group number of a setting
 abbrev pub number-of : Grammar → List ℕ → List ℕ → Inst → ℕ

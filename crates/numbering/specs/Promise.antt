@@ -9,7 +9,7 @@ use Rattle.chains.specs.Limits.{max-members}
 use Rattle.chains.specs.Grammar.{Grammar}
 use Rattle.chains.specs.Tree.{Bush, Kinded, flat, Sub}
 use Rattle.book.specs.Format.{grammar}
-use Rattle.sheet.specs.Reading.{settings-of}
+use Rattle.sheet.specs.Reading.{all-settings}
 use Rattle.sheet.specs.Refusals as sheet
 use Rattle.admission.specs.Refusals.{ShortCounts, ShortRoom, stage}
 use Rattle.ranks.specs.Entries.{up-entry, entry-bytes, none}
@@ -74,8 +74,8 @@ turn f = stage (f .0) ∷ f .2 ∷ f .0 ∷ f .1 ∷ []
 pub record Grouped (G : Grammar) (l : List ℕ) (T : Tables) (m m′ : Lent) (counts : List ℕ) : Type 0 where
   pub of : TreeOf G l
   pub nodes : m′ .nodes ≡ places G T (of .tree) (started G T (of .tree)) ++ drop (3 * length l) (m .nodes)
-  pub groups : m′ .groups ≡ group-numbers G T (of .tree) .list ++ drop (settings-of G l) (m .groups)
-  pub counted : counts ≡ length l ∷ settings-of G l ∷ group-numbers G T (of .tree) .next ∷ []
+  pub groups : m′ .groups ≡ group-numbers G T (of .tree) .list ++ drop (all-settings G l) (m .groups)
+  pub counted : counts ≡ length l ∷ all-settings G l ∷ group-numbers G T (of .tree) .next ∷ []
 
 abbrev pub CallDue : List ℕ → List ℕ → Tables → Lent → Said → Lent → Type 0
 CallDue b l T m (accepted counts) m′ = ((n p t : ℕ) → Applies b l T m n p t → ⊥) × Grouped (grammar b) l T m m′ counts

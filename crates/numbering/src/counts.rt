@@ -5,7 +5,7 @@ ghost use lib.ListN.{length, getD};
 ghost use Rattle.chains.specs.Limits.{max-members};
 ghost use Rattle.book.specs.Format.{kinds, grammar};
 ghost use Rattle.bookcheck.specs.Search.{Tells};
-ghost use Rattle.bookcheck.proofs.Accepted.{Accepted};
+ghost use Rattle.bookcheck.specs.Accepted.{Accepted};
 ghost use Rattle.numbering.specs.Walk.{tables};
 ghost use Rattle.numbering.specs.Promise.{BigCount};
 use book::limits::MAX_MEMBERS;

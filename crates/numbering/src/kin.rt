@@ -6,7 +6,7 @@ ghost use lib.ListN.{length};
 ghost use Rattle.chains.specs.Limits.{max-kids, max-nodes};
 ghost use Rattle.book.specs.Format.{kinds, prods, grammar};
 ghost use Rattle.ranks.specs.Reads.{numbers};
-ghost use Rattle.ranks.proofs.Padded.{CountsPadded};
+ghost use Rattle.ranks.specs.Padded.{CountsPadded};
 ghost use Rattle.numbering.specs.Parts.{Indexed, Children, Kindred};
 use super::limits::NODES;
 use super::limits::PRODUCTIONS;

@@ -5,7 +5,7 @@ ghost use Prim.Native.Nat.{_+_, _*_, _≤_, _<_};
 ghost use lib.ListN.{length};
 ghost use Rattle.chains.specs.Limits.{max-kids, max-settings, max-nodes};
 ghost use Rattle.book.specs.Format.{prods, grammar};
-ghost use Rattle.sheet.specs.Reading.{settings-of};
+ghost use Rattle.sheet.specs.Reading.{all-settings};
 ghost use Rattle.numbering.specs.Parts.{Indexed, Sheeted};
 ghost use Rattle.numbering.specs.Giving.{labels-known, Firsts, Held-one, Held-own, Slot, Ready, Instance, Walkable, Given};
 use super::limits::LABELS;
@@ -181,7 +181,7 @@ pub fn number_all(
     groups: &mut [u16],
 ) -> u16
     requires { ⌜ Indexed (now book) (now places) × Sheeted (now book) (now sheet) × Walkable (now book) (now sheet) (now down) (now ends) (now entries)
-        × (settings-of (grammar (now book)) (now sheet) ≤ length (now groups)) × (length (now ends) ≡ max-nodes) × (length (now entries) ≡ max-nodes) ⌝ }
+        × (all-settings (grammar (now book)) (now sheet) ≤ length (now groups)) × (length (now ends) ≡ max-nodes) × (length (now entries) ≡ max-nodes) ⌝ }
     ensures { λ r. ⌜ Given (now (book .entry)) (now (sheet .entry)) (now (down .entry)) (now (ends .entry)) (now (entries .entry)) (now (groups .entry)) (now (groups .exit)) r ⌝ }
 {
     let firsts = first_places(book, places, sheet);

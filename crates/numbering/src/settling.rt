@@ -2,7 +2,7 @@
 ghost use mathlib.Core.Path.{_≡_};
 ghost use lib.ListN.{length};
 ghost use Rattle.book.specs.Format.{grammar};
-ghost use Rattle.sheet.specs.Reading.{settings-of};
+ghost use Rattle.sheet.specs.Reading.{all-settings};
 ghost use Rattle.numbering.specs.Walk.{tables};
 ghost use Rattle.numbering.specs.Promise.{lent, CallDue};
 ghost use Rattle.numbering.specs.Answer.{said};
@@ -29,7 +29,7 @@ pub fn settle(
     groups: &mut [u16],
 ) -> Grouping
     requires { ⌜ Clear (now book) (now sheet) (tables (now «plausible_counts») (now «feasible_counts») (now up) (now down)) (lent (now nodes) (now groups))
-        × (count ≡ length (now sheet)) × (settings ≡ settings-of (grammar (now book)) (now sheet)) ⌝ }
+        × (count ≡ length (now sheet)) × (settings ≡ all-settings (grammar (now book)) (now sheet)) ⌝ }
     ensures { λ r. ⌜ CallDue (now (book .entry)) (now (sheet .entry)) (tables (now («plausible_counts» .entry)) (now («feasible_counts» .entry)) (now (up .entry)) (now (down .entry)))
         (lent (now (nodes .entry)) (now (groups .entry))) (said r) (lent (now (nodes .exit)) (now (groups .exit))) ⌝ }
 {

@@ -9,18 +9,8 @@ use lib.ListN.{length, getD}
 use Rattle.chains.specs.Limits.{max-kids}
 use Rattle.chains.specs.Grammar.{Grammar}
 use Rattle.ranks.specs.Entries.{choices, choice, up-start, up-entry, down-start, down-entry}
+use Rattle.ranks.specs.Padded.{CountsPadded, RanksPadded}
 use Rattle.ranks.specs.Reads.{from, up-number, down-number}
-
--- ns has the counts of the kinds ks, then 1, up to n of them
-pub record CountsPadded (n : ℕ) (c ks ns : List ℕ) : Type 0 where
-  pub few : length ks ≤ n
-  pub counts : (j : ℕ) → j < length ks → getD ns j 0 ≡ getD c (getD ks j 0) 0
-  pub ones : (j : ℕ) → length ks ≤ j → j < n → getD ns j 0 ≡ 1
-
--- ms is rs, then 0, up to n of them
-pub record RanksPadded (n : ℕ) (rs ms : List ℕ) : Type 0 where
-  pub long : length ms ≡ n
-  pub same : (j : ℕ) → j < n → getD ms j 0 ≡ getD rs j 0
 
 -- ── numbers from child i on ──
 -- the count of child j of the kinds ks, 1 where there is no such child

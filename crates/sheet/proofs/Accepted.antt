@@ -10,8 +10,9 @@ use Rattle.chains.specs.Limits.{max-settings}
 use Rattle.chains.specs.Grammar.{Grammar}
 use Rattle.chains.specs.Tree.{Bush}
 use Rattle.book.specs.Format.{grammar, kinds, prods}
-use Rattle.bookcheck.proofs.Accepted.{Accepted, accepted-book}
-use Rattle.sheet.specs.Reading.{settings-of}
+use Rattle.bookcheck.specs.Accepted.{Accepted}
+use Rattle.bookcheck.proofs.Accepted.{accepted-book}
+use Rattle.sheet.specs.Reading.{all-settings}
 use Rattle.sheet.specs.Refusals.{SheetDue}
 use Rattle.sheet.specs.Trees.{Sound, Drawn, Fits}
 use Rattle.sheet.proofs.Reading.{passed}
@@ -22,7 +23,7 @@ pub book-accepted : (b : List ℕ) → Sound b → Accepted b
 book-accepted b sound = accepted-book b (kinds b) (prods b) (refl, sound) .0
 
 -- THEOREM: a sheet that a check accepts fits its book, and the counts are its own
-pub accepted-sheet : (b l : List ℕ) (n s : ℕ) → SheetDue b l (accepted (n ∷ s ∷ [])) → Fits b l × (n ≡ length l) × (s ≡ settings-of (grammar b) l)
+pub accepted-sheet : (b l : List ℕ) (n s : ℕ) → SheetDue b l (accepted (n ∷ s ∷ [])) → Fits b l × (n ≡ length l) × (s ≡ all-settings (grammar b) l)
 accepted-sheet b l n s d = let (f, e) = sheet-tree b l (n ∷ s ∷ []) .0 d in (f, cc, cc)
 
 -- each byte is a production's number
@@ -30,12 +31,12 @@ pub byte-low : {G : Grammar} {l : List ℕ} {f : Bush} → Drawn G l f → (i : 
 byte-low d i h = passed (drawn-read d) h .heads .0
 
 -- the sum of the settings is at most 8 for each node
-sum-low : (G : Grammar) (m : ℕ) (l : List ℕ) → ((i : ℕ) → i < length l → G .settings (G .left (getD l i 0)) ≤ m) → settings-of G l ≤ m * length l
-unfolding settings-of
+sum-low : (G : Grammar) (m : ℕ) (l : List ℕ) → ((i : ℕ) → i < length l → G .settings (G .left (getD l i 0)) ≤ m) → all-settings G l ≤ m * length l
+unfolding all-settings
 sum-low G m [] h = omega arith
 sum-low G m (p ∷ l) h = omega (arith, h 0 (omega arith), sum-low G m l (λ i k. h (suc i) (omega arith)), mul-suc m (length l))
 
-pub settings-low : {b l : List ℕ} → Fits b l → settings-of (grammar b) l ≤ max-settings * length l
+pub settings-low : {b l : List ℕ} → Fits b l → all-settings (grammar b) l ≤ max-settings * length l
 settings-low {b} {l} f = sum-low (grammar b) max-settings l (λ i h.
     let law = book-accepted b (f .sound) .lawful in
     law .few-settings (grammar b .left (getD l i 0)) (law .left-in (getD l i 0) (byte-low (f .drawn) i h)))

@@ -16,7 +16,7 @@ use Rattle.bookcheck.proofs.Accepted.{told-prods}
 use Rattle.bookcheck.specs.declared.Checked as book
 use Rattle.bookcheck.specs.declared.Checked.the-variants as book-answer
 use Rattle.sheet.specs.Answer.{said}
-use Rattle.sheet.specs.Reading.{Read, begun, settings-of}
+use Rattle.sheet.specs.Reading.{Read, begun, all-settings}
 use Rattle.sheet.specs.Refusals.{SheetDue}
 use Rattle.sheet.specs.Stops.{Stop}
 use Rattle.sheet.specs.Trees.{Sound}
@@ -51,12 +51,12 @@ module _ {b l : List ℕ} {i s : ℕ} (h : Finished b l i s) where
   ended-accepted m =
       let e : i ≡ length l = omega (arith, h .standing .position .within) in
       let r : Read (grammar b) l (length l) [] = subst (λ n. Read (grammar b) l n []) e (h .nothing-due) in
-      let sum : s ≡ settings-of (grammar b) l = h .standing .sum ∙ ap (λ n. settings-of (grammar b) (take n l)) e ∙ ap (settings-of (grammar b)) (take-length l) in
+      let sum : s ≡ all-settings (grammar b) l = h .standing .sum ∙ ap (λ n. all-settings (grammar b) (take n l)) e ∙ ap (all-settings (grammar b)) (take-length l) in
       (ap₂ (λ n t. n ∷ t ∷ []) e sum, read-accepted (h .sound) (h .some) (h .standing .position .few-nodes) r .1)
 
 -- ── the tree from its root ──
 pub first-standing : (b l : List ℕ) → Sound b → length l ≤ max-nodes → Standing b l 0 0
-unfolding settings-of
+unfolding all-settings
 first-standing b l sound few = record { position = record { book = book-accepted b sound; few-nodes = few; within = omega arith }; sum = refl; low = omega arith }
 
 module _ {b l : List ℕ} {k : ℕ} {r : Walk} (sound : Sound b) (some : 0 < length l) (few : length l ≤ max-nodes)

@@ -7,7 +7,7 @@ use Rattle.lists.specs.Refusals.{Said, accepted, refused}
 use Rattle.lists.proofs.Refusals.{Orderly, due-once}
 use Rattle.book.specs.Format.{grammar}
 use Rattle.sheet.specs.Answer.{said}
-use Rattle.sheet.specs.Reading.{settings-of}
+use Rattle.sheet.specs.Reading.{all-settings}
 use Rattle.sheet.specs.Refusals.{Applies, turn, SheetDue}
 use Rattle.sheet.specs.declared.SheetChecked.{SheetChecked}
 use Rattle.sheet.specs.declared.SheetChecked.the-variants.{Accepted, Refused}
@@ -19,7 +19,7 @@ orderly = record {
 }
 
 pub said-once : (b l : List ℕ) (s t : Said) → SheetDue b l s → SheetDue b l t → s ≡ t
-said-once b l = due-once turn (λ f. f .0) (λ f. f .1) (λ f. Applies b l (f .0) (f .1)) (length l ∷ settings-of (grammar b) l ∷ []) orderly
+said-once b l = due-once turn (λ f. f .0) (λ f. f .1) (λ f. Applies b l (f .0) (f .1)) (length l ∷ all-settings (grammar b) l ∷ []) orderly
 
 -- an answer, from what it says
 back : Said → SheetChecked

@@ -7,7 +7,7 @@ use native.Mathlib.Omega.{arith}
 use lib.ListN.{length, getD, take}
 use Rattle.chains.specs.Limits.{max-levels}
 use Rattle.chains.specs.Grammar.{Grammar, Heads}
-use Rattle.sheet.specs.Reading.{Node, due, Read, begun, further, settings-of}
+use Rattle.sheet.specs.Reading.{Node, due, Read, begun, further, all-settings}
 
 -- byte i stood where it was due
 pub record Passed (G : Grammar) (l : List ℕ) (i : ℕ) : Type 0 where
@@ -48,8 +48,8 @@ module _ {G : Grammar} {l : List ℕ} where
 
 -- one byte more, and its node's settings
 pub settings-next : (G : Grammar) (l : List ℕ) (i : ℕ) → i < length l
-    → settings-of G (take (suc i) l) ≡ settings-of G (take i l) + G .settings (G .left (getD l i 0))
-unfolding settings-of
+    → all-settings G (take (suc i) l) ≡ all-settings G (take i l) + G .settings (G .left (getD l i 0))
+unfolding all-settings
 settings-next G [] i h = absurd (omega arith)
 settings-next G (p ∷ l) zero h = omega arith
 settings-next G (p ∷ l) (suc i) h = let e = settings-next G l i (omega arith) in omega arith

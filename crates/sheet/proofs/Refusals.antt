@@ -13,7 +13,7 @@ use Rattle.chains.specs.Grammar.{Grammar}
 use Rattle.book.specs.Format.{grammar}
 use Rattle.bookcheck.specs.Refusals as book
 use Rattle.bookcheck.proofs.Rows.{row-of-book}
-use Rattle.sheet.specs.Reading.{Node, Read, settings-of}
+use Rattle.sheet.specs.Reading.{Node, Read, all-settings}
 use Rattle.sheet.specs.Refusals.{Applies, of-book, bad-length, no-production, other-kind, ends-early, bytes-left, too-deep, turn, SheetDue}
 use Rattle.sheet.specs.Stops.{Fault, unknown, unfit, deep, Stop}
 use Rattle.sheet.specs.Trees.{Sound}
@@ -143,7 +143,7 @@ module _ {b l : List ℕ} (sound : Sound b) where
         before j s (reads ds r f) = here j ds r f (sooner-high (j .0) (j .1) n p (fault-high f) (fault-high (t .fault)) s)
 
     -- a sheet that is read to its end, with nothing due after it, is accepted
-    pub read-accepted : Read (grammar b) l (length l) [] → SheetDue b l (accepted (length l ∷ settings-of (grammar b) l ∷ []))
+    pub read-accepted : Read (grammar b) l (length l) [] → SheetDue b l (accepted (length l ∷ all-settings (grammar b) l ∷ []))
     read-accepted t = (refl, λ j r. none j (row r))
       where
         at-end : (i n : ℕ) (ds : List Node) → Read (grammar b) l i ds → Fault (grammar b) l i ds n → Dec (i < length l) → ⊥

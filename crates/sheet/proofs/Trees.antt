@@ -14,7 +14,7 @@ use Rattle.chains.specs.Grammar.{Grammar, Heads}
 use Rattle.chains.specs.Tree.{Bush, nil, grow, size, flat, Kinded, Shallow}
 use Rattle.chains.proofs.Read.{one-forest}
 use Rattle.book.specs.Format.{grammar}
-use Rattle.sheet.specs.Reading.{Node, due, Read, begun, further, settings-of}
+use Rattle.sheet.specs.Reading.{Node, due, Read, begun, further, all-settings}
 use Rattle.sheet.specs.Refusals.{Applies, of-book, bad-length, no-production, other-kind, ends-early, bytes-left, too-deep, SheetDue}
 use Rattle.sheet.specs.Trees.{Sound, Drawn, Fits}
 use Rattle.sheet.proofs.Refusals.{read-accepted}
@@ -129,7 +129,7 @@ module _ (b l : List ℕ) (free : (n p : ℕ) → Applies b l n p → ⊥) where
       go (d ∷ ds) r = absurd (free 22 (length l) (ends-early d ds r))
 
 -- THEOREM: a sheet is accepted exactly when its book is, it has 1 to 4,096 bytes, and some tree under the start, of at most 64 levels, has these bytes
-pub sheet-tree : (b l cs : List ℕ) → SheetDue b l (accepted cs) ↔ (Fits b l × (cs ≡ length l ∷ settings-of (grammar b) l ∷ []))
+pub sheet-tree : (b l cs : List ℕ) → SheetDue b l (accepted cs) ↔ (Fits b l × (cs ≡ length l ∷ all-settings (grammar b) l ∷ []))
 sheet-tree b l cs = (
   λ (e, none). let free : (n p : ℕ) → Applies b l n p → ⊥ = λ n p a. none (n, p) a in
       let (f, d) = read-drawn (free-read b l free) in

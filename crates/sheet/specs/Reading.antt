@@ -22,6 +22,6 @@ pub data Read (G : Grammar) (l : List ℕ) : ℕ → List Node → Type 0 where
       → ds ≡ due (suc v) (G .kids (getD l i 0)) ++ rest → Read G l (suc i) ds
 
 -- the settings of all nodes of a sheet
-unfoldable pub settings-of : Grammar → List ℕ → ℕ
-settings-of G [] = 0
-settings-of G (p ∷ l) = G .settings (G .left p) + settings-of G l
+unfoldable pub all-settings : Grammar → List ℕ → ℕ
+all-settings G [] = 0
+all-settings G (p ∷ l) = G .settings (G .left p) + all-settings G l

@@ -11,7 +11,7 @@ use Rattle.chains.specs.Limits.{max-nodes, max-levels}
 use Rattle.chains.specs.Grammar.{Grammar}
 use Rattle.book.specs.Format.{grammar, prods}
 use Rattle.bookcheck.specs.Refusals as book
-use Rattle.sheet.specs.Reading.{Node, Read, settings-of}
+use Rattle.sheet.specs.Reading.{Node, Read, all-settings}
 
 -- Applies b l n p: refusal n of the sheet l against the book b has its condition met at the place p
 pub data Applies (b l : List ℕ) : ℕ → ℕ → Type 0 where
@@ -29,4 +29,4 @@ turn f = pick (ltb (f .0) 21) (f .0) 21 ∷ f .1 ∷ f .0 ∷ []
 
 -- THE PROMISE of a sheet check: what it says of the sheet l against the book b; its counts are nodes and settings
 abbrev pub SheetDue : List ℕ → List ℕ → Said → Type 0
-SheetDue b l = Due turn (λ f. f .0) (λ f. f .1) (λ f. Applies b l (f .0) (f .1)) (length l ∷ settings-of (grammar b) l ∷ [])
+SheetDue b l = Due turn (λ f. f .0) (λ f. f .1) (λ f. Applies b l (f .0) (f .1)) (length l ∷ all-settings (grammar b) l ∷ [])

@@ -6,8 +6,8 @@ use lib.ListN.{length, getD, take}
 use Rattle.chains.specs.Limits.{max-settings, max-nodes, max-levels}
 use Rattle.chains.specs.Grammar.{Heads}
 use Rattle.book.specs.Format.{grammar, entry}
-use Rattle.bookcheck.proofs.Accepted.{Accepted}
-use Rattle.sheet.specs.Reading.{Node, Read, settings-of}
+use Rattle.bookcheck.specs.Accepted.{Accepted}
+use Rattle.sheet.specs.Reading.{Node, Read, all-settings}
 use Rattle.sheet.specs.Stops.{Stop}
 use Rattle.sheet.specs.Trees.{Sound}
 use Rattle.sheet.specs.declared.reader.Found.{Found}
@@ -24,7 +24,7 @@ pub record Position (b l : List ℕ) (i : ℕ) : Type 0 where
 -- and s is the number of settings of the nodes before it
 pub record Standing (b l : List ℕ) (i s : ℕ) : Type 0 where
   pub position : Position b l i
-  pub sum : s ≡ settings-of (grammar b) (take i l)
+  pub sum : s ≡ all-settings (grammar b) (take i l)
   pub low : s ≤ max-settings * i
 
 -- if at i a node of kind k is due, with so many levels left, and ds after it, then T ds

@@ -11,7 +11,7 @@ use Rattle.chains.specs.Plausible.{Plausible}
 use Rattle.chains.specs.Feasible.{Feasible}
 use Rattle.chains.proofs.Feasible.{ClosedDown, feasible-sound, feasible-complete}
 use Rattle.book.specs.Format.{kinds, prods, start, grammar}
-use Rattle.bookcheck.proofs.Accepted.{Accepted}
+use Rattle.bookcheck.specs.Accepted.{Accepted}
 use Rattle.members.specs.Sets.{Has}
 use Rattle.tables.specs.Memory.{Fine, Kept, Turned}
 use Rattle.zeros.specs.Zeros.{cleared}

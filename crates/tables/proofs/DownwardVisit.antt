@@ -16,7 +16,8 @@ use Rattle.chains.specs.Gather.{Towards, CodesOf}
 use Rattle.chains.specs.Steps.{StepDown}
 use Rattle.chains.proofs.Gathered.{gathered-down}
 use Rattle.book.specs.Format.{arity-at, entry, kinds, prods, grammar}
-use Rattle.bookcheck.proofs.Accepted.{Accepted, arity-read}
+use Rattle.bookcheck.specs.Accepted.{Accepted}
+use Rattle.bookcheck.proofs.Accepted.{arity-read}
 use Rattle.members.specs.Sets.{Has, Placed}
 use Rattle.tables.specs.Memory.{Fine, Turned}
 use Rattle.tables.specs.State.{based}

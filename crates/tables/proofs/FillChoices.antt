@@ -14,7 +14,7 @@ use Rattle.members.specs.Sets.{member}
 use Rattle.tables.specs.Entries.{picked}
 use Rattle.tables.specs.State.{spot}
 use Rattle.tables.specs.Shape.{kind-of, width-of, kinds-from, Sized}
-use Rattle.tables.specs.Fill.{Ready, tied-once, tied, InPlace, Entry, entry-size, Rankable, Laid, chosen, Choices, Asked, AllChoices, AllAsked}
+use Rattle.tables.specs.Fill.{Ready, tied-once, tied, InPlace, Entry, entry-size, Rankable, EntriesLaid, chosen, Choices, Asked, AllChoices, AllAsked}
 use Rattle.tables.specs.declared.shape.Shape.{Shape}
 use Rattle.tables.specs.declared.entry.Table.{Table}
 use Rattle.tables.specs.declared.entry.Table.the-variants.{Down}
@@ -40,11 +40,11 @@ module _ (table : Table) (v : Shape) (t : ℕ) (s c f d : List ℕ) where
   unfolding choices
   none-count ks e = ap (choices c) e
 
-  none-laid : (x : List ℕ) {ks out : List ℕ} {a : ℕ} {out′ : List ℕ} {z : ℕ} → ks ≡ [] → Laid (entry-size table) 1 (λ i e. Entry table f d v x e) out a out′ z
-      → Laid (entry-size table) (choices c ks) (Choices table v t s c f d ks x) out a out′ z
+  none-laid : (x : List ℕ) {ks out : List ℕ} {a : ℕ} {out′ : List ℕ} {z : ℕ} → ks ≡ [] → EntriesLaid (entry-size table) 1 (λ i e. Entry table f d v x e) out a out′ z
+      → EntriesLaid (entry-size table) (choices c ks) (Choices table v t s c f d ks x) out a out′ z
   unfolding picked tied choices
   none-laid x {ks} {out} {a} {out′} {z} e h =
-      subst (λ ks. Laid (entry-size table) (choices c ks) (Choices table v t s c f d ks x) out a out′ z) (sym e) (laid-map h (λ i l b q rs r n. q))
+      subst (λ ks. EntriesLaid (entry-size table) (choices c ks) (Choices table v t s c f d ks x) out a out′ z) (sym e) (laid-map h (λ i l b q rs r n. q))
 
   -- ── the ranks of a slot, whose kind is k; ks are the kinds behind it ──
   -- the entries of rank r stand behind those of the ranks before it
@@ -71,8 +71,8 @@ module _ {table : Table} {v : Shape} {t : ℕ} {s c f d x out : List ℕ} {a : �
         let g : a + 1 * entry-size table ≤ length out = rw n at (h .room) in
         (h .standing, none-rankable table v t s c f d x (kinds-from v t) e (h .rankable), omega (arith, one-mul (entry-size table)))
 
-    pub leaf-laid : {out′ : List ℕ} {z : ℕ} → Laid (entry-size table) 1 (λ i e. Entry table f d v x e) out a out′ z
-        → Laid (entry-size table) (choices c (kinds-from v t)) (Choices table v t s c f d (kinds-from v t) x) out a out′ z
+    pub leaf-laid : {out′ : List ℕ} {z : ℕ} → EntriesLaid (entry-size table) 1 (λ i e. Entry table f d v x e) out a out′ z
+        → EntriesLaid (entry-size table) (choices c (kinds-from v t)) (Choices table v t s c f d (kinds-from v t) x) out a out′ z
     leaf-laid k = none-laid table v t s c f d x (kinds-none v t l) k
 
   -- ── the n ranks of slot t, one after another ──
@@ -116,15 +116,15 @@ module _ {table : Table} {v : Shape} {t : ℕ} {s c f d x out : List ℕ} {a : �
 
         -- and what it brings
         pub turn-next : {y : List ℕ} {out″ : List ℕ} {z′ : ℕ} → y ≡ x′
-            → Laid (entry-size table) (choices c (kinds-from v (t + 1))) (Choices table v (t + 1) s c f d (kinds-from v (t + 1)) y) out′ z out″ z′
+            → EntriesLaid (entry-size table) (choices c (kinds-from v (t + 1))) (Choices table v (t + 1) s c f d (kinds-from v (t + 1)) y) out′ z out″ z′
             → Turning out″ z′ (r + 1)
         turn-next {y} {out″} {z′} q k =
-            let k′ : Laid (entry-size table) (choices c ks) (Choices table v (suc t) s c f d ks x′) out′ z out″ z′ = rw (q, add-one t) at k in
+            let k′ : EntriesLaid (entry-size table) (choices c ks) (Choices table v (suc t) s c f d ks x′) out′ z out″ z′ = rw (q, add-one t) at k in
             blocks-next g m k′
             (subst (λ u. Behind (r * choices c ks) (choices c ks) (Choices table v t s c f d u x) (Choices table v (suc t) s c f d ks x′)) (sym (kinds-step v t l))
             (rank-behind table v t s c f d x (kind-of v t) ks r))
 
-      pub turn-done : n ≤ r → Laid (entry-size table) (choices c (kinds-from v t)) (Choices table v t s c f d (kinds-from v t) x) out a out′ z
+      pub turn-done : n ≤ r → EntriesLaid (entry-size table) (choices c (kinds-from v t)) (Choices table v t s c f d (kinds-from v t) x) out a out′ z
       turn-done m = laid-count (blocks-done g m) (sym all-choices)
 
 -- ── the members of the left kind, one after another, with the children's choices each ──
@@ -162,9 +162,9 @@ module _ {v : Shape} {s c f d x out : List ℕ} {a : ℕ} (h : AllAsked v s c f 
       })
 
       -- and what they bring
-      pub feed-next : {out″ : List ℕ} {z′ : ℕ} → Laid entry-bytes (choices c (kinds-from v 1)) (Choices Down v 1 s c f d (kinds-from v 1) y) out′ z out″ z′
+      pub feed-next : {out″ : List ℕ} {z′ : ℕ} → EntriesLaid entry-bytes (choices c (kinds-from v 1)) (Choices Down v 1 s c f d (kinds-from v 1) y) out′ z out″ z′
           → Feeding out″ z′ (u + 1)
       feed-next k = blocks-next g m (rw q at k) (member-behind v s c f d (kinds-from v 1) x u)
 
-    pub feed-done : n ≤ u → Laid entry-bytes (getD d (kind-of v 0) 0 * choices c (kinds-from v 1)) (AllChoices v s c f d (kinds-from v 1) x) out a out′ z
+    pub feed-done : n ≤ u → EntriesLaid entry-bytes (getD d (kind-of v 0) 0 * choices c (kinds-from v 1)) (AllChoices v s c f d (kinds-from v 1) x) out a out′ z
     feed-done m = laid-count (blocks-done g m) (ap (λ (n : ℕ). n * choices c (kinds-from v 1)) e)

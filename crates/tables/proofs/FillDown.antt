@@ -14,7 +14,8 @@ use Rattle.chains.specs.Feasible.{Feasible, down, Chosen}
 use Rattle.chains.specs.State.{code-on}
 use Rattle.book.specs.Format.{kinds, prods, entry, grammar}
 use Rattle.book.specs.Reading.{told}
-use Rattle.bookcheck.proofs.Accepted.{Accepted, told-prods}
+use Rattle.bookcheck.specs.Accepted.{Accepted}
+use Rattle.bookcheck.proofs.Accepted.{told-prods}
 use Rattle.ranks.specs.Entries.{Ranks, choices, down-start, down-entry, entry-bytes}
 use Rattle.ranks.proofs.Numbers.{down-start-after, down-entry-below}
 use Rattle.members.specs.Sets.{member}
@@ -23,7 +24,7 @@ use Rattle.tables.specs.Promise.{down-entries, Written}
 use Rattle.tables.specs.State.{based}
 use Rattle.tables.specs.Shape.{kind-of, kinds-from, ShapeAt, Opened}
 use Rattle.tables.specs.Sweep.{Exact}
-use Rattle.tables.specs.Fill.{tied, tied-once, Listed, DownBytes, Entry, Laid, chosen, ByAllRanks, AllChoices, AllAsked, DownRun, DownAll}
+use Rattle.tables.specs.Fill.{tied, tied-once, Listed, DownBytes, Entry, EntriesLaid, chosen, ByAllRanks, AllChoices, AllAsked, DownRun, DownAll}
 use Rattle.tables.specs.declared.shape.Shape.{Shape}
 use Rattle.tables.specs.declared.entry.Table.the-variants.{Down}
 use Rattle.members.proofs.Ranked.{ranked-has}
@@ -102,14 +103,14 @@ module _ {b : List ℕ} (a : Accepted b) (p : ℕ) (l : p < prods b) {v : Shape}
 
     -- THEOREM: and what it brings
     pub down-laid : {out′ : List ℕ} {q : ℕ}
-        → Laid entry-bytes (getD d (kind-of v 0) 0 * choices c (kinds-from v 1)) (AllChoices v s c f d (kinds-from v 1) (based b (entry b p))) out z out′ q
-        → Laid entry-bytes (getD d left 0 * choices c ks) (DownRun G s c f d p) out z out′ q
+        → EntriesLaid entry-bytes (getD d (kind-of v 0) 0 * choices c (kinds-from v 1)) (AllChoices v s c f d (kinds-from v 1) (based b (entry b p))) out z out′ q
+        → EntriesLaid entry-bytes (getD d left 0 * choices c ks) (DownRun G s c f d p) out z out′ q
     down-laid {out′} {q} k =
-        laid-map (subst₂ Told (kind-is a p l h 0 (omega arith)) (kids-are a p l h) k) (λ i n e w u rs m r o. down-is u rs m r (w u rs m r o))
+        laid-map (subst₂ Wanted (kind-is a p l h 0 (omega arith)) (kids-are a p l h) k) (λ i n e w u rs m r o. down-is u rs m r (w u rs m r o))
       where
-        Told : ℕ → List ℕ → Type 0
-        Told k ks =
-            Laid entry-bytes (getD d k 0 * choices c ks)
+        Wanted : ℕ → List ℕ → Type 0
+        Wanted k ks =
+            EntriesLaid entry-bytes (getD d k 0 * choices c ks)
             (ByAllRanks (getD d k 0) c ks (λ u rs e. Entry Down f d v (chosen v 1 s ks rs (tied-once v 0 (member f k u) (based b (entry b p)))) e)) out z out′ q
 
 -- the same, of an entry found at its place, with the state made there
@@ -119,8 +120,8 @@ module _ {b places : List ℕ} (o : Opened b places) {p : ℕ} (l : p < prods b)
   pub down-run-asks : z + getD d (grammar b .left p) 0 * choices c (grammar b .kids p) * entry-bytes ≤ length out → AllAsked v s c f d w out z
   down-run-asks room = rw (opened-base o p l e) (down-asked (o .book) p l (opened-shape o p l h) x y room)
 
-  pub down-run-laid : {out′ : List ℕ} {q : ℕ} → Laid entry-bytes (getD d (kind-of v 0) 0 * choices c (kinds-from v 1)) (AllChoices v s c f d (kinds-from v 1) w) out z out′ q
-      → Laid entry-bytes (getD d (grammar b .left p) 0 * choices c (grammar b .kids p)) (DownRun (grammar b) s c f d p) out z out′ q
+  pub down-run-laid : {out′ : List ℕ} {q : ℕ} → EntriesLaid entry-bytes (getD d (kind-of v 0) 0 * choices c (kinds-from v 1)) (AllChoices v s c f d (kinds-from v 1) w) out z out′ q
+      → EntriesLaid entry-bytes (getD d (grammar b .left p) 0 * choices c (grammar b .kids p)) (DownRun (grammar b) s c f d p) out z out′ q
   down-run-laid k = down-laid (o .book) p l (opened-shape o p l h) x y (rw (opened-base o p l e) at k)
 
 -- ── all productions ──
@@ -148,7 +149,7 @@ pub record DownFilling (b s c f d : List ℕ) (n : ℕ) (out out′ : List ℕ) 
   pub all : n ≡ prods b
   pub within : p ≤ n
   pub room : down-entries (grammar b) c d * entry-bytes ≤ length out
-  pub laid : Laid entry-bytes (down-start (grammar b) c d p) (DownAll (grammar b) s c f d) out 0 out′ z
+  pub laid : EntriesLaid entry-bytes (down-start (grammar b) c d p) (DownAll (grammar b) s c f d) out 0 out′ z
 
 pub down-begun : {b places : List ℕ} → Opened b places → (s c f d : List ℕ) {n m : ℕ} {out : List ℕ} → n ≡ m → m ≡ told b 2
     → down-entries (grammar b) c d * entry-bytes ≤ length out → DownFilling b s c f d n out out 0 0
@@ -177,7 +178,7 @@ module _ {b s c f d : List ℕ} {n : ℕ} {out out′ : List ℕ} {z p : ℕ} (h
     pub down-room : z + many * entry-bytes ≤ length out′
     down-room = omega (arith, after, h .room, h .laid .ends, h .laid .long)
 
-    pub down-next : {out″ : List ℕ} {y : ℕ} → Laid entry-bytes many (DownRun G′ s c f d p) out′ z out″ y → DownFilling b s c f d n out out″ y (p + 1)
+    pub down-next : {out″ : List ℕ} {y : ℕ} → EntriesLaid entry-bytes many (DownRun G′ s c f d p) out′ z out″ y → DownFilling b s c f d n out out″ y (p + 1)
     unfolding down-start
     down-next k = record {
       all = h .all;
@@ -190,7 +191,7 @@ module _ {b s c f d : List ℕ} {n : ℕ} {out out′ : List ℕ} {z p : ℕ} (h
   pub down-done : n ≤ p → DownTable G′ s c f d out′ × Written (down-entries G′ c d * entry-bytes) out out′
   down-done l = (table, laid-written whole (h .room))
     where
-      whole : Laid entry-bytes (down-entries G′ c d) (DownAll G′ s c f d) out 0 out′ z
+      whole : EntriesLaid entry-bytes (down-entries G′ c d) (DownAll G′ s c f d) out 0 out′ z
       whole = let e : p ≡ prods b = omega (arith, h .all, h .within) in laid-count (h .laid) (ap (down-start G′ c d) e)
 
       table : DownTable G′ s c f d out′

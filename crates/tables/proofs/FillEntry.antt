@@ -17,7 +17,7 @@ use Rattle.members.specs.Sets.{Sought}
 use Rattle.members.proofs.Seeking.{search-finds}
 use Rattle.tables.specs.State.{State, tidied}
 use Rattle.tables.specs.Shape.{kind-of, width-of}
-use Rattle.tables.specs.Fill.{InPlace, Listed, RankOn, ChildRank, ChildRanks, DownBytes, Entry, entry-size, Rankable, Laid}
+use Rattle.tables.specs.Fill.{InPlace, Listed, RankOn, ChildRank, ChildRanks, DownBytes, Entry, entry-size, Rankable, EntriesLaid}
 use Rattle.tables.specs.declared.shape.Shape.{Shape}
 use Rattle.tables.specs.declared.entry.Table.{Table}
 use Rattle.tables.proofs.StateTidy.{tidy-state}
@@ -89,14 +89,14 @@ labels-put {x} out a {l} s h e o =
 
 -- ── whole entries ──
 pub up-put : {f d : List ℕ} {v : Shape} {x : List ℕ} (out : List ℕ) (a : ℕ) {r : ℕ} → RankOn f d v 0 x r → a + 1 ≤ length out
-    → Laid 1 1 (λ i e. RankOn f d v 0 x (getD e 0 none)) out a (set out a r) (a + 1)
+    → EntriesLaid 1 1 (λ i e. RankOn f d v 0 x (getD e 0 none)) out a (set out a r) (a + 1)
 up-put {f} {d} {v} {x} out a {r} h room =
     let e : a + 1 ≡ suc a = omega arith in
     let p : set out a r ≡ place a (r ∷ []) out = rw e (set-split out a r (omega arith) ∙ sym (append-snoc (take a out) r (drop (suc a) out))) in
     laid-one (λ i e. RankOn f d v 0 x (getD e 0 none)) refl h room p
 
 pub down-put : {f d : List ℕ} {v : Shape} {x out : List ℕ} {a : ℕ} {out′ out″ : List ℕ} {b : ℕ} → InPlace f d v x → a + entry-bytes ≤ length out → b ≡ a + labels
-    → out′ ≡ place a (tidied x) out → ChildRanks f d v x max-kids out′ b out″ → Laid entry-bytes 1 (λ i e. DownBytes f d v x e) out a out″ (a + entry-bytes)
+    → out′ ≡ place a (tidied x) out → ChildRanks f d v x max-kids out′ b out″ → EntriesLaid entry-bytes 1 (λ i e. DownBytes f d v x e) out a out″ (a + entry-bytes)
 down-put {f} {d} {v} {x} {out} {a} {out′} {out″} {b} h room at e k = laid-one (λ i e. DownBytes f d v x e) long bytes room held
   where
     many : length (tidied x) ≡ labels
@@ -128,6 +128,6 @@ module _ {table known : Table} (e : table ≡ known) where
   pub told-room : (a : ℕ) {n : ℕ} → a + entry-size table ≤ n → a + entry-size known ≤ n
   told-room a {n} l = subst (λ t. a + entry-size t ≤ n) e l
 
-  pub told-laid : (f d : List ℕ) (v : Shape) (x : List ℕ) {out : List ℕ} {a : ℕ} {out′ : List ℕ} {z : ℕ} → Laid (entry-size known) 1 (λ i b. Entry known f d v x b) out a out′ z
-      → Laid (entry-size table) 1 (λ i b. Entry table f d v x b) out a out′ z
-  told-laid f d v x {out} {a} {out′} {z} h = subst (λ t. Laid (entry-size t) 1 (λ i b. Entry t f d v x b) out a out′ z) (sym e) h
+  pub told-laid : (f d : List ℕ) (v : Shape) (x : List ℕ) {out : List ℕ} {a : ℕ} {out′ : List ℕ} {z : ℕ} → EntriesLaid (entry-size known) 1 (λ i b. Entry known f d v x b) out a out′ z
+      → EntriesLaid (entry-size table) 1 (λ i b. Entry table f d v x b) out a out′ z
+  told-laid f d v x {out} {a} {out′} {z} h = subst (λ t. EntriesLaid (entry-size t) 1 (λ i b. Entry t f d v x b) out a out′ z) (sym e) h

@@ -11,7 +11,7 @@ use lib.Seq.{take-at, take-all, take-append-le, drop-append-le, drop-append-add,
 use Rattle.lists.specs.Part.{part, place}
 use Rattle.lists.proofs.Parts.{place-long}
 use Rattle.tables.specs.Promise.{Written}
-use Rattle.tables.specs.Fill.{Run, Laid}
+use Rattle.tables.specs.Fill.{Run, EntriesLaid}
 
 -- ── parts ──
 -- a list put behind another over the same list
@@ -70,7 +70,7 @@ run-join {w} {n} {m} {Q} {Q′} {l} {l′} r s f = record {
         rw (part-second l l′ (i * w) w ((i - n) * w) b) (rw j at q)
 
 -- ── runs put over a part ──
-pub laid-none : (w : ℕ) (Q : ℕ → List ℕ → Type 0) (out : List ℕ) (a : ℕ) → Laid w 0 Q out a out a
+pub laid-none : (w : ℕ) (Q : ℕ → List ℕ → Type 0) (out : List ℕ) (a : ℕ) → EntriesLaid w 0 Q out a out a
 laid-none w Q out a = record {
   bytes = [];
   run = run-none w Q;
@@ -80,7 +80,7 @@ laid-none w Q out a = record {
 }
 
 pub laid-one : {w : ℕ} (Q : ℕ → List ℕ → Type 0) {out : List ℕ} {a : ℕ} {l out′ : List ℕ} → length l ≡ w → Q 0 l → a + w ≤ length out → out′ ≡ place a l out
-    → Laid w 1 Q out a out′ (a + w)
+    → EntriesLaid w 1 Q out a out′ (a + w)
 laid-one {w} Q {out} {a} {l} h q f e = record {
   bytes = l;
   run = run-one Q h q;
@@ -90,8 +90,8 @@ laid-one {w} Q {out} {a} {l} h q f e = record {
 }
 
 -- THEOREM: a run behind a run is one run
-pub laid-then : {w n m : ℕ} {Q Q′ : ℕ → List ℕ → Type 0} {out : List ℕ} {a : ℕ} {out′ : List ℕ} {z : ℕ} {out″ : List ℕ} {y : ℕ} → Laid w n Q out a out′ z
-    → Laid w m Q′ out′ z out″ y → a + (n + m) * w ≤ length out → Behind n m Q Q′ → Laid w (n + m) Q out a out″ y
+pub laid-then : {w n m : ℕ} {Q Q′ : ℕ → List ℕ → Type 0} {out : List ℕ} {a : ℕ} {out′ : List ℕ} {z : ℕ} {out″ : List ℕ} {y : ℕ} → EntriesLaid w n Q out a out′ z
+    → EntriesLaid w m Q′ out′ z out″ y → a + (n + m) * w ≤ length out → Behind n m Q Q′ → EntriesLaid w (n + m) Q out a out″ y
 laid-then {w} {n} {m} {Q} {Q′} {out} {a} {out′} {z} {out″} {y} h k room f =
     let u = h .bytes in
     let t = k .bytes in
@@ -107,8 +107,8 @@ laid-then {w} {n} {m} {Q} {Q′} {out} {a} {out′} {z} {out″} {y} h k room f 
     }
 
 -- the same entries, said otherwise
-pub laid-map : {w n : ℕ} {Q Q′ : ℕ → List ℕ → Type 0} {out : List ℕ} {a : ℕ} {out′ : List ℕ} {z : ℕ} → Laid w n Q out a out′ z
-    → ((i : ℕ) → i < n → (e : List ℕ) → Q i e → Q′ i e) → Laid w n Q′ out a out′ z
+pub laid-map : {w n : ℕ} {Q Q′ : ℕ → List ℕ → Type 0} {out : List ℕ} {a : ℕ} {out′ : List ℕ} {z : ℕ} → EntriesLaid w n Q out a out′ z
+    → ((i : ℕ) → i < n → (e : List ℕ) → Q i e → Q′ i e) → EntriesLaid w n Q′ out a out′ z
 laid-map h f = record {
   bytes = h .bytes;
   run = record { long = h .run .long; each = λ i l. f i l _ (h .run .each i l) };
@@ -117,15 +117,15 @@ laid-map h f = record {
   ends = h .ends;
 }
 
-pub laid-count : {w n m : ℕ} {Q : ℕ → List ℕ → Type 0} {out : List ℕ} {a : ℕ} {out′ : List ℕ} {z : ℕ} → Laid w n Q out a out′ z → n ≡ m → Laid w m Q out a out′ z
-laid-count {w} {Q = Q} {out} {a} {out′} {z} h e = subst (λ n. Laid w n Q out a out′ z) e h
+pub laid-count : {w n m : ℕ} {Q : ℕ → List ℕ → Type 0} {out : List ℕ} {a : ℕ} {out′ : List ℕ} {z : ℕ} → EntriesLaid w n Q out a out′ z → n ≡ m → EntriesLaid w m Q out a out′ z
+laid-count {w} {Q = Q} {out} {a} {out′} {z} h e = subst (λ n. EntriesLaid w n Q out a out′ z) e h
 
 -- ── blocks of m entries each, one behind another ──
 -- r of n blocks are laid
 pub record Blocks (w m n : ℕ) (Q : ℕ → List ℕ → Type 0) (out : List ℕ) (a : ℕ) (out′ : List ℕ) (z r : ℕ) : Type 0 where
   pub within : r ≤ n
   pub room : a + n * m * w ≤ length out
-  pub laid : Laid w (r * m) Q out a out′ z
+  pub laid : EntriesLaid w (r * m) Q out a out′ z
 
 pub blocks-begun : (w m n : ℕ) (Q : ℕ → List ℕ → Type 0) (out : List ℕ) (a : ℕ) → a + n * m * w ≤ length out → Blocks w m n Q out a out a 0
 blocks-begun w m n Q out a h =
@@ -145,16 +145,16 @@ module _ {w m n : ℕ} {Q : ℕ → List ℕ → Type 0} {out : List ℕ} {a : �
     pub blocks-room : z + m * w ≤ length out′
     blocks-room = let e = add-mul (r * m) m w in omega (arith, one-more, h .laid .ends, h .laid .long)
 
-    pub blocks-next : {Q′ : ℕ → List ℕ → Type 0} {out″ : List ℕ} {y : ℕ} → Laid w m Q′ out′ z out″ y → Behind (r * m) m Q Q′ → Blocks w m n Q out a out″ y (r + 1)
+    pub blocks-next : {Q′ : ℕ → List ℕ → Type 0} {out″ : List ℕ} {y : ℕ} → EntriesLaid w m Q′ out′ z out″ y → Behind (r * m) m Q Q′ → Blocks w m n Q out a out″ y (r + 1)
     blocks-next k f =
         let q : r * m + m ≡ suc r * m = omega arith in
         record { within = omega arith; room = h .room; laid = rw (add-one r) (laid-count (laid-then (h .laid) k one-more f) q) }
 
-  pub blocks-done : n ≤ r → Laid w (n * m) Q out a out′ z
+  pub blocks-done : n ≤ r → EntriesLaid w (n * m) Q out a out′ z
   blocks-done l = let e : r ≡ n = omega (arith, h .within) in laid-count (h .laid) (ap (λ (r : ℕ). r * m) e)
 
 -- ── a whole table ──
-module _ {w n : ℕ} {Q : ℕ → List ℕ → Type 0} {out out′ : List ℕ} {z : ℕ} (h : Laid w n Q out 0 out′ z) (room : n * w ≤ length out) where
+module _ {w n : ℕ} {Q : ℕ → List ℕ → Type 0} {out out′ : List ℕ} {z : ℕ} (h : EntriesLaid w n Q out 0 out′ z) (room : n * w ≤ length out) where
   whole : out′ ≡ h .bytes ++ drop (n * w) out
   whole = let e : 0 + length (h .bytes) ≡ n * w = omega (arith, h .run .long) in h .held ∙ ap (λ (i : ℕ). h .bytes ++ drop i out) e
 

@@ -12,7 +12,7 @@ use Rattle.chains.specs.Grouping.{Says, Alike, Members}
 use Rattle.chains.specs.State.{code-on}
 use Rattle.chains.specs.Feasible.{Chosen}
 use Rattle.book.specs.Format.{kinds, prods, entry, grammar}
-use Rattle.bookcheck.proofs.Accepted.{Accepted}
+use Rattle.bookcheck.specs.Accepted.{Accepted}
 use Rattle.members.specs.Sets.{member}
 use Rattle.tables.specs.Sets.{Holds}
 use Rattle.ranks.specs.Entries.{Ranks}

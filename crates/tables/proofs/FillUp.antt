@@ -15,7 +15,8 @@ use Rattle.chains.specs.State.{code-on}
 use Rattle.chains.proofs.Plausible.{plausible-sound}
 use Rattle.book.specs.Format.{kinds, prods, entry, grammar}
 use Rattle.book.specs.Reading.{told}
-use Rattle.bookcheck.proofs.Accepted.{Accepted, told-prods}
+use Rattle.bookcheck.specs.Accepted.{Accepted}
+use Rattle.bookcheck.proofs.Accepted.{told-prods}
 use Rattle.ranks.specs.Entries.{Ranks, choices, choice, up-start, up-entry, none}
 use Rattle.ranks.proofs.Numbers.{ranks-of, ranks-of-below, choice-ranks-of, up-start-after, up-entry-once, up-entry-below}
 use Rattle.tables.specs.Entries.{picked, Upward, Ranked, UpTable}
@@ -23,7 +24,7 @@ use Rattle.tables.specs.Promise.{up-entries, Written}
 use Rattle.tables.specs.State.{based}
 use Rattle.tables.specs.Shape.{kinds-from, ShapeAt, Opened}
 use Rattle.tables.specs.Sweep.{Exact}
-use Rattle.tables.specs.Fill.{tied, Listed, Laid, chosen, Choices, Asked, UpRun, UpAll}
+use Rattle.tables.specs.Fill.{tied, Listed, EntriesLaid, chosen, Choices, Asked, UpRun, UpAll}
 use Rattle.tables.specs.declared.shape.Shape.{Shape}
 use Rattle.tables.specs.declared.entry.Table.the-variants.{Up}
 use Rattle.tables.proofs.StateBase.{few-settings}
@@ -72,11 +73,11 @@ module _ {b : List ℕ} (a : Accepted b) (p : ℕ) (l : p < prods b) {v : Shape}
     }
 
     -- THEOREM: and what it brings
-    pub up-laid : {out′ : List ℕ} {y : ℕ} → Laid 1 (choices c (kinds-from v 1)) (Choices Up v 1 s c s c (kinds-from v 1) (based b (entry b p))) out z out′ y
-        → Laid 1 (choices c ks) (UpRun G s c p) out z out′ y
+    pub up-laid : {out′ : List ℕ} {y : ℕ} → EntriesLaid 1 (choices c (kinds-from v 1)) (Choices Up v 1 s c s c (kinds-from v 1) (based b (entry b p))) out z out′ y
+        → EntriesLaid 1 (choices c ks) (UpRun G s c p) out z out′ y
     up-laid {out′} {y} k =
-        let k′ : Laid 1 (choices c ks) (Choices Up v 1 s c s c ks (based b (entry b p))) out z out′ y
-        = subst (λ ks. Laid 1 (choices c ks) (Choices Up v 1 s c s c ks (based b (entry b p))) out z out′ y) (kids-are a p l h) k in
+        let k′ : EntriesLaid 1 (choices c ks) (Choices Up v 1 s c s c ks (based b (entry b p))) out z out′ y
+        = subst (λ ks. EntriesLaid 1 (choices c ks) (Choices Up v 1 s c s c ks (based b (entry b p))) out z out′ y) (kids-are a p l h) k in
         laid-map k′ (λ i n e q rs r m. ranked-on a p l h 0 (omega arith) (up-says rs r) (q rs r m))
 
 -- the same, of an entry found at its place, with the state made there
@@ -85,8 +86,8 @@ module _ {b places : List ℕ} (o : Opened b places) {p : ℕ} (l : p < prods b)
   pub up-run-asks : z + choices c (grammar b .kids p) ≤ length out → Asked Up v 1 s c s c y out z
   up-run-asks room = rw (opened-base o p l e) (up-asked (o .book) p l (opened-shape o p l h) x room)
 
-  pub up-run-laid : {out′ : List ℕ} {q : ℕ} → Laid 1 (choices c (kinds-from v 1)) (Choices Up v 1 s c s c (kinds-from v 1) y) out z out′ q
-      → Laid 1 (choices c (grammar b .kids p)) (UpRun (grammar b) s c p) out z out′ q
+  pub up-run-laid : {out′ : List ℕ} {q : ℕ} → EntriesLaid 1 (choices c (kinds-from v 1)) (Choices Up v 1 s c s c (kinds-from v 1) y) out z out′ q
+      → EntriesLaid 1 (choices c (grammar b .kids p)) (UpRun (grammar b) s c p) out z out′ q
   up-run-laid k = up-laid (o .book) p l (opened-shape o p l h) x (rw (opened-base o p l e) at k)
 
 -- ── all productions ──
@@ -104,7 +105,7 @@ pub record UpFilling (b s c : List ℕ) (n : ℕ) (out out′ : List ℕ) (z p :
   pub all : n ≡ prods b
   pub within : p ≤ n
   pub room : up-entries (grammar b) c ≤ length out
-  pub laid : Laid 1 (up-start (grammar b) c p) (UpAll (grammar b) s c) out 0 out′ z
+  pub laid : EntriesLaid 1 (up-start (grammar b) c p) (UpAll (grammar b) s c) out 0 out′ z
 
 pub up-begun : {b places : List ℕ} → Opened b places → (s c : List ℕ) {n m : ℕ} {out : List ℕ} → n ≡ m → m ≡ told b 2 → up-entries (grammar b) c ≤ length out
     → UpFilling b s c n out out 0 0
@@ -125,7 +126,7 @@ module _ {b s c : List ℕ} {n : ℕ} {out out′ : List ℕ} {z p : ℕ} (h : U
     pub up-room : z + choices c (G′ .kids p) ≤ length out′
     up-room = omega (arith, after, h .room, h .laid .ends, h .laid .long, mul-one (up-start G′ c p))
 
-    pub up-next : {out″ : List ℕ} {y : ℕ} → Laid 1 (choices c (G′ .kids p)) (UpRun G′ s c p) out′ z out″ y → UpFilling b s c n out out″ y (p + 1)
+    pub up-next : {out″ : List ℕ} {y : ℕ} → EntriesLaid 1 (choices c (G′ .kids p)) (UpRun G′ s c p) out′ z out″ y → UpFilling b s c n out out″ y (p + 1)
     unfolding up-start
     up-next k = record {
       all = h .all;
@@ -138,7 +139,7 @@ module _ {b s c : List ℕ} {n : ℕ} {out out′ : List ℕ} {z p : ℕ} (h : U
   pub up-done : n ≤ p → UpTable G′ s c out′ × Written (up-entries G′ c) out out′
   up-done l = (table, subst (λ (m : ℕ). Written m out out′) (mul-one (up-entries G′ c)) (laid-written whole room))
     where
-      whole : Laid 1 (up-entries G′ c) (UpAll G′ s c) out 0 out′ z
+      whole : EntriesLaid 1 (up-entries G′ c) (UpAll G′ s c) out 0 out′ z
       whole = let e : p ≡ prods b = omega (arith, h .all, h .within) in laid-count (h .laid) (ap (up-start G′ c) e)
 
       room : up-entries G′ c * 1 ≤ length out

@@ -11,7 +11,7 @@ use Rattle.chains.specs.Limits.{max-members}
 use Rattle.book.specs.Reading.{kind-in}
 use Rattle.members.specs.Sets.{members, Placed}
 use Rattle.tables.specs.State.{width-in}
-use Rattle.tables.specs.Visit.{max-turns, size-of, Opened, Taken, Sized, Opening}
+use Rattle.tables.specs.Visit.{max-turns, size-of, Opened, TurnGiven, Sized, Opening}
 use Rattle.tables.specs.declared.gather.Visit.{Visit}
 use Rattle.members.proofs.Ranked.{members-long}
 
@@ -42,7 +42,7 @@ module _ {b : List ℕ} {at : ℕ} {s c : List ℕ} {v v′ : Visit} {j slot : �
   size-now = set-here (v .sizes) (v′ .sizes) j (getD c (kind-in b at slot) 0) (o .sizes-now) (omega (arith, z .sizes))
 
   -- the turn itself
-  pub opened-this : Taken b at s c v′ l′ j slot
+  pub opened-this : TurnGiven b at s c v′ l′ j slot
   opened-this = record {
     slot-is = set-here (v .slots) (v′ .slots) j slot (o .slots-now) (omega (arith, z .slots));
     width-is = set-here (v .widths) (v′ .widths) j (width-in b at slot) (o .widths-now) (omega (arith, z .widths));
@@ -56,7 +56,7 @@ module _ {b : List ℕ} {at : ℕ} {s c : List ℕ} {v v′ : Visit} {j slot : �
   }
 
   -- a turn before it
-  pub opened-before : {s₀ c₀ : List ℕ} {i t : ℕ} → i < j → Taken b at s₀ c₀ v l i t → Taken b at s₀ c₀ v′ l′ i t
+  pub opened-before : {s₀ c₀ : List ℕ} {i t : ℕ} → i < j → TurnGiven b at s₀ c₀ v l i t → TurnGiven b at s₀ c₀ v′ l′ i t
   opened-before {i = i} h u =
       let n : i ≡ j → ⊥ = λ e. omega arith in
       let q : size-of v′ i ≡ size-of v i = set-there (v .sizes) (v′ .sizes) j (getD c (kind-in b at slot) 0) i (o .sizes-now) n in

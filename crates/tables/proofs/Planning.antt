@@ -12,7 +12,8 @@ use Rattle.chains.specs.State.{Shown}
 use Rattle.chains.proofs.Gather.{result-open}
 use Rattle.book.specs.Format.{entry, prods, grammar}
 use Rattle.book.specs.Reading.{kind-in}
-use Rattle.bookcheck.proofs.Accepted.{Accepted, arity-read, kind-in-read}
+use Rattle.bookcheck.specs.Accepted.{Accepted}
+use Rattle.bookcheck.proofs.Accepted.{arity-read, kind-in-read}
 use Rattle.members.specs.Sets.{Has, member, Placed}
 use Rattle.tables.specs.State.{width-in, based}
 use Rattle.tables.specs.Visit.{max-turns, slot-of, width-of, size-of, code-of, Yields, Ready, Standing, InOrder, Opening, Prepared}

@@ -13,7 +13,8 @@ use Rattle.chains.specs.Labels as labelling
 use Rattle.chains.proofs.Labels.{length-labels, labels-at}
 use Rattle.book.specs.Format.{kinds, prods, entry, grammar}
 use Rattle.book.specs.Reading.{kind-in}
-use Rattle.bookcheck.proofs.Accepted.{Accepted, arity-read, kind-in-read}
+use Rattle.bookcheck.specs.Accepted.{Accepted}
+use Rattle.bookcheck.proofs.Accepted.{arity-read, kind-in-read}
 use Rattle.ranks.specs.Entries.{choices}
 use Rattle.ranks.proofs.Numbers.{choices-few}
 use Rattle.tables.specs.Shape.{max-slots, kind-of, width-of, kinds-from, ShapeAt, Small, Countable}

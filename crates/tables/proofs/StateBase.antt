@@ -17,7 +17,8 @@ use Rattle.chains.proofs.State.{getD-any, base-shown, ties-numbered}
 use Rattle.book.specs.Format.{occ, prods, entry, arity-at, grammar}
 use Rattle.book.specs.Reading.{kind-in}
 use Rattle.bookcheck.proofs.Decided.{exists-decided}
-use Rattle.bookcheck.proofs.Accepted.{Accepted, settings-read, arity-read, kind-in-read, pairs-read, inside, to-low, from-low}
+use Rattle.bookcheck.specs.Accepted.{Accepted}
+use Rattle.bookcheck.proofs.Accepted.{settings-read, arity-read, kind-in-read, pairs-read, inside, to-low, from-low}
 use Rattle.ranks.specs.Entries.{labels, none}
 use Rattle.tables.specs.State.{Present, Same, Low, State, width-in, own, apart, based, Readable}
 use Rattle.tables.proofs.State.{joins-means}

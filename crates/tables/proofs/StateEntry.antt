@@ -21,7 +21,7 @@ use Rattle.chains.proofs.Says.{says-map, each-alike, each-slot}
 use Rattle.chains.proofs.State.{code-says}
 use Rattle.chains.proofs.Tying.{tied-shown}
 use Rattle.book.specs.Format.{occ, prods, entry, grammar}
-use Rattle.bookcheck.proofs.Accepted.{Accepted}
+use Rattle.bookcheck.specs.Accepted.{Accepted}
 use Rattle.ranks.specs.Entries.{none}
 use Rattle.tables.specs.Entries.{Labelled}
 use Rattle.tables.specs.State.{Present, Same, State, spot, Whole, tidied, based}

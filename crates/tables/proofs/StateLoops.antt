@@ -27,7 +27,7 @@ use Rattle.chains.specs.State.{numbers, pairs-from, code-pairs}
 use Rattle.chains.proofs.Labels.{length-joinAt, length-labels}
 use Rattle.chains.proofs.Appearance.{index-at, index-first}
 use Rattle.chains.proofs.Codes.{length-unpack, unpack-at}
-use Rattle.book.specs.Format.{arity-at, pairs-at, bytes-at, ties-of}
+use Rattle.book.specs.Format.{after-kids, arity-at, pairs-at, bytes-at, ties-of}
 use Rattle.book.specs.Reading.{settings-of, kind-in, to-at, from-at}
 use Rattle.bookcheck.specs.Search.{Tells}
 use Rattle.ranks.specs.Entries.{labels, none}
@@ -128,18 +128,18 @@ base-begun b at s e = record {
 
 module _ {b : List ℕ} {at : ℕ} {s : List ℕ} {i : ℕ} (h : Basing b at s i) (r : Readable b at) where
   bytes-long : length (bytes-at b at) ≡ 2 * pairs-at b at
-  bytes-long = length-part (at + 3 + arity-at b at) (2 * pairs-at b at) b (r .room)
+  bytes-long = length-part (after-kids b at + 1) (2 * pairs-at b at) b (r .room)
 
   pub base-low : {x y : ℕ} → i < pairs-at b at → x ≡ to-at b at i → y ≡ from-at b at i → (x < labels) × (y < labels) × (length s ≡ labels)
   base-low l p q = (rw p (r .low i l .0), rw q (r .low i l .1), h .long)
 
   to-byte : i < pairs-at b at → getD (bytes-at b at) (2 * i) 0 ≡ to-at b at i
-  to-byte l = getD-part (at + 3 + arity-at b at) (2 * pairs-at b at) b (2 * i) 0 (omega arith)
+  to-byte l = getD-part (after-kids b at + 1) (2 * pairs-at b at) b (2 * i) 0 (omega arith)
 
   from-byte : i < pairs-at b at → getD (bytes-at b at) (2 * i + 1) 0 ≡ from-at b at i
   from-byte l =
-      getD-part (at + 3 + arity-at b at) (2 * pairs-at b at) b (2 * i + 1) 0 (omega arith)
-      ∙ ap (λ (k : ℕ). getD b k 0) (sym (add-assoc (at + 3 + arity-at b at) (2 * i) 1))
+      getD-part (after-kids b at + 1) (2 * pairs-at b at) b (2 * i + 1) 0 (omega arith)
+      ∙ ap (λ (k : ℕ). getD b k 0) (sym (add-assoc (after-kids b at + 1) (2 * i) 1))
 
   pub base-turn : (x y : ℕ) (s′ : List ℕ) → i < pairs-at b at → x ≡ to-at b at i → y ≡ from-at b at i → s′ ≡ joinAt s x y → Basing b at s′ (i + 1)
   unfolding joins

@@ -17,7 +17,7 @@ use Rattle.chains.proofs.Gather.{result-map, up-none, up-more, towards-none, to
 use Rattle.chains.proofs.State.{code-says}
 use Rattle.chains.proofs.Tying.{tied-shown, turned}
 use Rattle.book.specs.Format.{prods, entry, grammar}
-use Rattle.bookcheck.proofs.Accepted.{Accepted}
+use Rattle.bookcheck.specs.Accepted.{Accepted}
 use Rattle.tables.specs.State.{Present, State, spot, Whole, tidied, based}
 use Rattle.tables.proofs.State.{tie-means, forget-state, forget-present}
 use Rattle.tables.proofs.StateTidy.{tidy-state, tidy-present, tidy-same}

@@ -13,7 +13,8 @@ use Rattle.chains.specs.Steps.{StepUp}
 use Rattle.chains.proofs.Plausible.{plausible-sound, plausible-complete}
 use Rattle.book.specs.Format.{arity-at, entry, kinds, prods, grammar}
 use Rattle.book.specs.Reading.{kid-at}
-use Rattle.bookcheck.proofs.Accepted.{Accepted, arity-read, kid-read}
+use Rattle.bookcheck.specs.Accepted.{Accepted}
+use Rattle.bookcheck.proofs.Accepted.{arity-read, kid-read}
 use Rattle.members.specs.Sets.{Has}
 use Rattle.tables.specs.Memory.{Fine, Kept, Turned}
 use Rattle.zeros.specs.Zeros.{cleared}

@@ -11,7 +11,8 @@ use Rattle.chains.specs.Steps.{StepUp}
 use Rattle.chains.proofs.Gathered.{gathered-up}
 use Rattle.book.specs.Format.{arity-at, entry, kinds, prods, grammar}
 use Rattle.book.specs.Reading.{kind-in}
-use Rattle.bookcheck.proofs.Accepted.{Accepted, arity-read, kind-in-read}
+use Rattle.bookcheck.specs.Accepted.{Accepted}
+use Rattle.bookcheck.proofs.Accepted.{arity-read, kind-in-read}
 use Rattle.members.specs.Sets.{Has, Placed}
 use Rattle.tables.specs.Memory.{Fine, Turned}
 use Rattle.tables.specs.State.{based}

@@ -88,7 +88,7 @@ pub record Run (w n : ℕ) (Q : ℕ → List ℕ → Type 0) (l : List ℕ) : Ty
   pub each : (i : ℕ) → i < n → Q i (part (i * w) w l)
 
 -- such a run put over what `out` has from a on, up to z
-pub record Laid (w n : ℕ) (Q : ℕ → List ℕ → Type 0) (out : List ℕ) (a : ℕ) (out′ : List ℕ) (z : ℕ) : Type 0 where
+pub record EntriesLaid (w n : ℕ) (Q : ℕ → List ℕ → Type 0) (out : List ℕ) (a : ℕ) (out′ : List ℕ) (z : ℕ) : Type 0 where
   pub bytes : List ℕ
   pub run : Run w n Q bytes
   pub held : out′ ≡ place a bytes out

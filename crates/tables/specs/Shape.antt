@@ -8,7 +8,7 @@ use Rattle.chains.specs.Limits.{max-settings, max-kids, max-members}
 use Rattle.chains.specs.Labels as labelling
 use Rattle.book.specs.Format.{kinds, arity-at}
 use Rattle.book.specs.Reading.{kind-in, Index}
-use Rattle.bookcheck.proofs.Accepted.{Accepted}
+use Rattle.bookcheck.specs.Accepted.{Accepted}
 use Rattle.members.specs.Sets.{Placed}
 use Rattle.tables.specs.State.{width-in}
 use Rattle.tables.specs.declared.shape.Shape.{Shape}

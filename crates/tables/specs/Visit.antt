@@ -114,7 +114,7 @@ pub record Opened (b : List ℕ) (at : ℕ) (s c : List ℕ) (v : Visit) (j slot
   pub lists-now : l′ ≡ place (j * max-members) (members s c (kind-in b at slot)) l
 
 -- turn i has a slot, with its settings and the codes of its kind
-pub record Taken (b : List ℕ) (at : ℕ) (s c : List ℕ) (v : Visit) (l : List ℕ) (i slot : ℕ) : Type 0 where
+pub record TurnGiven (b : List ℕ) (at : ℕ) (s c : List ℕ) (v : Visit) (l : List ℕ) (i slot : ℕ) : Type 0 where
   pub slot-is : slot-of v i ≡ slot
   pub width-is : width-of v i ≡ width-in b at slot
   pub size-is : size-of v i ≡ getD c (kind-in b at slot) 0
@@ -134,7 +134,7 @@ pub record Opening (b : List ℕ) (at t : ℕ) (σ : ℕ → ℕ) (S C : ℕ →
   pub target : v .target ≡ t
   pub width : v .width ≡ width-in b at t
   pub kind : v .kind ≡ kind-in b at t
-  pub taken : (i : ℕ) → i < j → Taken b at (S i) (C i) v l i (σ i)
+  pub taken : (i : ℕ) → i < j → TurnGiven b at (S i) (C i) v l i (σ i)
 
 -- some turn before j has no code to choose
 abbrev pub Barren : Visit → ℕ → Type 0

@@ -7,7 +7,7 @@ ghost use Rattle.chains.specs.Plausible.{Plausible};
 ghost use Rattle.chains.specs.Feasible.{Feasible};
 ghost use Rattle.book.specs.Format.{arity-at, entry, kinds, prods, grammar};
 ghost use Rattle.book.specs.Reading.{told, kind-in, Index};
-ghost use Rattle.bookcheck.proofs.Accepted.{Accepted};
+ghost use Rattle.bookcheck.specs.Accepted.{Accepted};
 ghost use Rattle.members.specs.Sets.{Has, Placed};
 ghost use Rattle.tables.specs.Memory.{Fine, Turned};
 ghost use Rattle.tables.specs.Visit.{max-turns, Opened, Opening};

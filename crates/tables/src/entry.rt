@@ -6,7 +6,7 @@ ghost use Rattle.lists.specs.Part.{place};
 ghost use Rattle.chains.specs.Limits.{max-kids};
 ghost use Rattle.ranks.specs.Entries.{labels};
 ghost use Rattle.tables.specs.State.{State, tidied};
-ghost use Rattle.tables.specs.Fill.{InPlace, Listed, RankOn, ChildRank, ChildRanks, Rankable, Entry, entry-size, Laid};
+ghost use Rattle.tables.specs.Fill.{InPlace, Listed, RankOn, ChildRank, ChildRanks, Rankable, Entry, entry-size, EntriesLaid};
 use super::labels::LABELS;
 use super::labels::NONE;
 use super::labels::tidy;
@@ -76,7 +76,7 @@ fn put_up(
     at: usize,
 ) -> usize
     requires { ⌜ InPlace (now sets) (now counts) v (now s) × Rankable Table.Up (now sets) (now counts) v (now s) × (at + entry-size Table.Up ≤ length (now out)) ⌝ }
-    ensures { λ r. ⌜ Laid (entry-size Table.Up) 1 (λ i e. Entry Table.Up (now (sets .entry)) (now (counts .entry)) v (now (s .entry)) e) (now (out .entry)) at (now (out .exit)) r ⌝ }
+    ensures { λ r. ⌜ EntriesLaid (entry-size Table.Up) 1 (λ i e. Entry Table.Up (now (sets .entry)) (now (counts .entry)) v (now (s .entry)) e) (now (out .entry)) at (now (out .exit)) r ⌝ }
 {
     out[at] = rank_on(v, 0, s, sets, counts);
     at + 1
@@ -92,7 +92,7 @@ fn put_down(
     at: usize,
 ) -> usize
     requires { ⌜ InPlace (now sets) (now counts) v (now s) × Rankable Table.Down (now sets) (now counts) v (now s) × (at + entry-size Table.Down ≤ length (now out)) ⌝ }
-    ensures { λ r. ⌜ Laid (entry-size Table.Down) 1 (λ i e. Entry Table.Down (now (sets .entry)) (now (counts .entry)) v (now (s .entry)) e) (now (out .entry)) at (now (out .exit)) r ⌝ }
+    ensures { λ r. ⌜ EntriesLaid (entry-size Table.Down) 1 (λ i e. Entry Table.Down (now (sets .entry)) (now (counts .entry)) v (now (s .entry)) e) (now (out .entry)) at (now (out .exit)) r ⌝ }
 {
     put_labels(s, out, at);
     put_ranks(v, s, sets, counts, out, at + LABELS);
@@ -110,7 +110,7 @@ pub fn put_entry(
     at: usize,
 ) -> usize
     requires { ⌜ InPlace (now sets) (now counts) v (now s) × Rankable table (now sets) (now counts) v (now s) × (at + entry-size table ≤ length (now out)) ⌝ }
-    ensures { λ r. ⌜ Laid (entry-size table) 1 (λ i e. Entry table (now (sets .entry)) (now (counts .entry)) v (now (s .entry)) e) (now (out .entry)) at (now (out .exit)) r ⌝ }
+    ensures { λ r. ⌜ EntriesLaid (entry-size table) 1 (λ i e. Entry table (now (sets .entry)) (now (counts .entry)) v (now (s .entry)) e) (now (out .entry)) at (now (out .exit)) r ⌝ }
 {
     match table {
         Table::Up => put_up(v, s, sets, counts, out, at),

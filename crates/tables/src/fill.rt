@@ -13,7 +13,7 @@ ghost use Rattle.tables.specs.Entries.{UpTable, DownTable};
 ghost use Rattle.tables.specs.Promise.{up-entries, down-entries, Written};
 ghost use Rattle.tables.specs.Shape.{kind-of, kinds-from, Sized, Opened};
 ghost use Rattle.tables.specs.Sweep.{Exact};
-ghost use Rattle.tables.specs.Fill.{Ready, tied-once, entry-size, Laid, Choices, Asked, AllAsked, AllChoices, UpRun, DownRun};
+ghost use Rattle.tables.specs.Fill.{Ready, tied-once, entry-size, EntriesLaid, Choices, Asked, AllAsked, AllChoices, UpRun, DownRun};
 use super::entry::Table;
 use super::entry::put_entry;
 use super::labels::LABELS;
@@ -66,7 +66,7 @@ fn lay(
     at: usize,
 ) -> usize
     requires { ⌜ Asked table v slot (now sets) (now counts) (now ranked) (now sizes) (now s) (now out) at ⌝ }
-    ensures { λ r. ⌜ Laid (entry-size table) (choices (now (counts .entry)) (kinds-from v slot))
+    ensures { λ r. ⌜ EntriesLaid (entry-size table) (choices (now (counts .entry)) (kinds-from v slot))
         (Choices table v slot (now (sets .entry)) (now (counts .entry)) (now (ranked .entry)) (now (sizes .entry)) (kinds-from v slot) (now (s .entry)))
         (now (out .entry)) at (now (out .exit)) r ⌝ }
 {
@@ -96,7 +96,7 @@ fn lay_down(
     at: usize,
 ) -> usize
     requires { ⌜ AllAsked v (now sets) (now counts) (now feasible) (now sizes) (now s) (now out) at ⌝ }
-    ensures { λ r. ⌜ Laid (entry-size Table.Down) (getD (now (sizes .entry)) (kind-of v 0) 0 * choices (now (counts .entry)) (kinds-from v 1))
+    ensures { λ r. ⌜ EntriesLaid (entry-size Table.Down) (getD (now (sizes .entry)) (kind-of v 0) 0 * choices (now (counts .entry)) (kinds-from v 1))
         (AllChoices v (now (sets .entry)) (now (counts .entry)) (now (feasible .entry)) (now (sizes .entry)) (kinds-from v 1) (now (s .entry))) (now (out .entry)) at (now (out .exit)) r ⌝ }
 {
     let n = members_on(v, 0, sizes);
@@ -135,7 +135,7 @@ fn up_run(
 ) -> usize
     requires { ⌜ Opened (now book) (now places) × (p < prods (now book)) × Exact (kinds (now book)) (Plausible (grammar (now book))) (now sets) (now counts)
         × (at + choices (now counts) (grammar (now book) .kids p) ≤ length (now up)) ⌝ }
-    ensures { λ r. ⌜ Laid (entry-size Table.Up) (choices (now (counts .entry)) (grammar (now (book .entry)) .kids p))
+    ensures { λ r. ⌜ EntriesLaid (entry-size Table.Up) (choices (now (counts .entry)) (grammar (now (book .entry)) .kids p))
         (UpRun (grammar (now (book .entry))) (now (sets .entry)) (now (counts .entry)) p) (now (up .entry)) at (now (up .exit)) r ⌝ }
 {
     let entry = places[p];
@@ -184,7 +184,7 @@ fn down_run(
     requires { ⌜ Opened (now book) (now places) × (p < prods (now book)) × Exact (kinds (now book)) (Plausible (grammar (now book))) (now sets) (now counts)
         × Exact (kinds (now book)) (Feasible (grammar (now book))) (now feasible) (now sizes)
         × (at + getD (now sizes) (grammar (now book) .left p) 0 * choices (now counts) (grammar (now book) .kids p) * entry-bytes ≤ length (now down)) ⌝ }
-    ensures { λ r. ⌜ Laid entry-bytes (getD (now (sizes .entry)) (grammar (now (book .entry)) .left p) 0 * choices (now (counts .entry)) (grammar (now (book .entry)) .kids p))
+    ensures { λ r. ⌜ EntriesLaid entry-bytes (getD (now (sizes .entry)) (grammar (now (book .entry)) .left p) 0 * choices (now (counts .entry)) (grammar (now (book .entry)) .kids p))
         (DownRun (grammar (now (book .entry))) (now (sets .entry)) (now (counts .entry)) (now (feasible .entry)) (now (sizes .entry)) p) (now (down .entry)) at (now (down .exit)) r ⌝ }
 {
     let entry = places[p];

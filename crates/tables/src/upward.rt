@@ -6,7 +6,7 @@ ghost use Rattle.chains.specs.Limits.{max-kids, max-members, max-prods};
 ghost use Rattle.chains.specs.Plausible.{Plausible};
 ghost use Rattle.book.specs.Format.{arity-at, entry, kinds, prods, grammar};
 ghost use Rattle.book.specs.Reading.{kind-in, kid-at, Index};
-ghost use Rattle.bookcheck.proofs.Accepted.{Accepted};
+ghost use Rattle.bookcheck.specs.Accepted.{Accepted};
 ghost use Rattle.members.specs.Sets.{Has, Placed};
 ghost use Rattle.tables.specs.Memory.{Fine};
 ghost use Rattle.tables.specs.Visit.{max-turns, Opening};

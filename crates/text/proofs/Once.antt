@@ -7,9 +7,9 @@ use native.Mathlib.Omega.{arith}
 use native.Mathlib.Nat.{pow-le-pow-right}
 use lib.ListN.{length}
 use Rattle.io.specs.Digits.{digits, Fewest}
-use Rattle.text.specs.Held.{Put, behind, alone, through, PutDecimal}
+use Rattle.text.specs.Held.{Appended, behind, alone, through, AppendedDecimal}
 
-pub put-once : {s w : List ℕ} {held : ℕ} {s₁ s₂ : List ℕ} {n₁ n₂ : ℕ} → Put s held w s₁ n₁ → Put s held w s₂ n₂ → (s₁ ≡ s₂) × (n₁ ≡ n₂)
+pub put-once : {s w : List ℕ} {held : ℕ} {s₁ s₂ : List ℕ} {n₁ n₂ : ℕ} → Appended s held w s₁ n₁ → Appended s held w s₂ n₂ → (s₁ ≡ s₂) × (n₁ ≡ n₂)
 put-once (behind h e a) (behind i f b) = (e ∙ sym f, a ∙ sym b)
 put-once (behind h e a) (alone i j f b) = absurd (omega arith)
 put-once (behind h e a) (through i j f b) = absurd (omega arith)
@@ -29,6 +29,6 @@ none-fewer {n} {a} {b} f g h =
 fewest-once : {n a b : ℕ} → Fewest 10 1 n a → Fewest 10 1 n b → a ≡ b
 fewest-once {n} {a} {b} f g = omega (arith, none-fewer f g, none-fewer g f)
 
-pub decimal-once : {s : List ℕ} {held n : ℕ} {s₁ s₂ : List ℕ} {n₁ n₂ : ℕ} → PutDecimal s held n s₁ n₁ → PutDecimal s held n s₂ n₂ → (s₁ ≡ s₂) × (n₁ ≡ n₂)
+pub decimal-once : {s : List ℕ} {held n : ℕ} {s₁ s₂ : List ℕ} {n₁ n₂ : ℕ} → AppendedDecimal s held n s₁ n₁ → AppendedDecimal s held n s₂ n₂ → (s₁ ≡ s₂) × (n₁ ≡ n₂)
 decimal-once {s} {held} {n} {s₁} {s₂} {n₁} {n₂} p q =
     put-once (p .put) (rw (fewest-once {n = n} (p .fewest) (q .fewest)) (q .put))

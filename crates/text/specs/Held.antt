@@ -10,13 +10,13 @@ use Rattle.io.specs.Digits.{digits, Fewest}
 -- What a word does to a buffer s of which so many bytes are held, with the buffer and the number held afterwards:
 -- it follows what is held; or it has no room there, and stands alone when that has gone out;
 -- or it is longer than the whole buffer, and goes out after it.
-pub data Put (s : List ℕ) (held : ℕ) (w s′ : List ℕ) (held′ : ℕ) : Type 0 where
-  behind : held + length w ≤ length s → s′ ≡ place held w s → held′ ≡ held + length w → Put s held w s′ held′
-  alone : length s < held + length w → length w ≤ length s → s′ ≡ place 0 w s → held′ ≡ length w → Put s held w s′ held′
-  through : length s < held + length w → length s < length w → s′ ≡ s → held′ ≡ 0 → Put s held w s′ held′
+pub data Appended (s : List ℕ) (held : ℕ) (w s′ : List ℕ) (held′ : ℕ) : Type 0 where
+  behind : held + length w ≤ length s → s′ ≡ place held w s → held′ ≡ held + length w → Appended s held w s′ held′
+  alone : length s < held + length w → length w ≤ length s → s′ ≡ place 0 w s → held′ ≡ length w → Appended s held w s′ held′
+  through : length s < held + length w → length s < length w → s′ ≡ s → held′ ≡ 0 → Appended s held w s′ held′
 
 -- a number as a word: its decimal digits, no more than it takes
-pub record PutDecimal (s : List ℕ) (held n : ℕ) (s′ : List ℕ) (held′ : ℕ) : Type 0 where
+pub record AppendedDecimal (s : List ℕ) (held n : ℕ) (s′ : List ℕ) (held′ : ℕ) : Type 0 where
   pub places : ℕ
   pub fewest : Fewest 10 1 n places
-  pub put : Put s held (digits 10 places n) s′ held′
+  pub put : Appended s held (digits 10 places n) s′ held′

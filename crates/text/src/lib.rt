@@ -5,7 +5,7 @@
 ghost use mathlib.Core.Path.{_≡_};
 ghost use Prim.Native.Nat.{_+_, _<_};
 ghost use lib.ListN.{length};
-ghost use Rattle.text.specs.Held.{Put, PutDecimal};
+ghost use Rattle.text.specs.Held.{Appended, AppendedDecimal};
 
 // Digits of the largest number.
 const MOST_DIGITS: usize = 20;
@@ -24,7 +24,7 @@ pub fn flush(fd: i32, out: &[u8], held: usize) -> usize
 
 // Puts a word behind what is held, and answers how much is held then.
 pub fn word(fd: i32, out: &mut [u8], held: usize, w: &[u8]) -> usize
-    ensures { λ r. ⌜ Put (now (out .entry)) held (now (w .entry)) (now (out .exit)) r ⌝ }
+    ensures { λ r. ⌜ Appended (now (out .entry)) held (now (w .entry)) (now (out .exit)) r ⌝ }
 {
     if out.len() < held {
         return afresh(fd, out, held, w);
@@ -39,7 +39,7 @@ pub fn word(fd: i32, out: &mut [u8], held: usize, w: &[u8]) -> usize
 // The word has no room behind what is held, which goes out.
 fn afresh(fd: i32, out: &mut [u8], held: usize, w: &[u8]) -> usize
     requires { ⌜ length (now out) < held + length (now w) ⌝ }
-    ensures { λ r. ⌜ Put (now (out .entry)) held (now (w .entry)) (now (out .exit)) r ⌝ }
+    ensures { λ r. ⌜ Appended (now (out .entry)) held (now (w .entry)) (now (out .exit)) r ⌝ }
 {
     flush(fd, out, held);
     if w.len() <= out.len() {
@@ -52,7 +52,7 @@ fn afresh(fd: i32, out: &mut [u8], held: usize, w: &[u8]) -> usize
 
 // Puts a number's decimal digits behind what is held, and answers how much is held then.
 pub fn decimal(fd: i32, out: &mut [u8], held: usize, n: u64) -> usize
-    ensures { λ r. ⌜ PutDecimal (now (out .entry)) held n (now (out .exit)) r ⌝ }
+    ensures { λ r. ⌜ AppendedDecimal (now (out .entry)) held n (now (out .exit)) r ⌝ }
 {
     let mut digits = [0u8; MOST_DIGITS];
     let k = io::decimal(n, &mut digits);
