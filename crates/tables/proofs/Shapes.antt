@@ -60,11 +60,11 @@ module _ {b : List ℕ} {at : ℕ} {ks ws : List ℕ} {t : ℕ} (h : Shaping b a
 -- ── the slots from one on ──
 module _ (v : Shape) (t : ℕ) where
   pub kinds-step : t ≤ v .arity → kinds-from v t ≡ kind-of v t ∷ kinds-from v (suc t)
-  unfolding kinds-from labelling.labels
+  unfolding kinds-from labelling.labels-by
   kinds-step h = let e : suc (v .arity) - t ≡ suc (suc (v .arity) - suc t) = omega arith in rw e
 
   pub kinds-none : v .arity < t → kinds-from v t ≡ []
-  unfolding kinds-from labelling.labels
+  unfolding kinds-from labelling.labels-by
   kinds-none h = let e : suc (v .arity) - t ≡ 0 = omega arith in rw e
 
   pub kinds-long : length (kinds-from v t) ≡ suc (v .arity) - t

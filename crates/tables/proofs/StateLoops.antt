@@ -65,21 +65,21 @@ module _ (b : List ℕ) (at : ℕ) where
   own-missing o {a} {t} {w} p q r h = sym (rw (le-ltb (o % max-settings) (width-in b at (o / max-settings)) (rw (p, r, q) at h)))
 
 -- ---- every occurrence by itself
-labels-snoc : (f : ℕ → ℕ) (k n : ℕ) → labelling.labels f k (suc n) ≡ labelling.labels f k n ++ f (k + n) ∷ []
-unfolding labelling.labels
+labels-snoc : (f : ℕ → ℕ) (k n : ℕ) → labelling.labels-by f k (suc n) ≡ labelling.labels-by f k n ++ f (k + n) ∷ []
+unfolding labelling.labels-by
 labels-snoc f k zero = ap (λ (z : ℕ). f z ∷ []) (omega arith)
 labels-snoc f k (suc n) =
     let e : suc k + n ≡ k + suc n = omega arith in
-    ap (λ (l : List ℕ). f k ∷ l) (labels-snoc f (suc k) n ∙ ap (λ (z : ℕ). labelling.labels f (suc k) n ++ f z ∷ []) e)
+    ap (λ (l : List ℕ). f k ∷ l) (labels-snoc f (suc k) n ∙ ap (λ (z : ℕ). labelling.labels-by f (suc k) n ++ f z ∷ []) e)
 
 -- the first o places have what f gives
 pub record Laying (f : ℕ → ℕ) (s : List ℕ) (o : ℕ) : Type 0 where
   pub at : o ≤ labels
   pub long : length s ≡ labels
-  pub held : take o s ≡ labelling.labels f 0 o
+  pub held : take o s ≡ labelling.labels-by f 0 o
 
 pub lay-begun : (f : ℕ → ℕ) (s : List ℕ) → length s ≡ labels → Laying f s 0
-unfolding labelling.labels
+unfolding labelling.labels-by
 lay-begun f s h = record { at = omega arith; long = h; held = refl }
 
 module _ {f : ℕ → ℕ} {s : List ℕ} {o : ℕ} (h : Laying f s o) where
@@ -93,10 +93,10 @@ module _ {f : ℕ → ℕ} {s : List ℕ} {o : ℕ} (h : Laying f s o) where
             ∙ rw (h .held, e, add-one o) (sym (rw z at (labels-snoc f 0 o)));
       }
 
-  pub lay-done : labels ≤ o → s ≡ labelling.labels f 0 labels
+  pub lay-done : labels ≤ o → s ≡ labelling.labels-by f 0 labels
   lay-done l =
       let e : o ≡ labels = omega (arith, h .at) in
-      sym (take-all o s (omega (arith, h .long))) ∙ h .held ∙ ap (labelling.labels f 0) e
+      sym (take-all o s (omega (arith, h .long))) ∙ h .held ∙ ap (labelling.labels-by f 0) e
 
 -- ---- pairs joined so far
 -- the i-th of the ties that bytes name

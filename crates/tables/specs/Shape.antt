@@ -26,7 +26,7 @@ width-of v t = getD (v .widths) t 0
 
 -- the kinds of the slots from t on
 unfoldable pub kinds-from : Shape → ℕ → List ℕ
-kinds-from v t = labelling.labels (kind-of v) t (suc (v .arity) - t)
+kinds-from v t = labelling.labels-by (kind-of v) t (suc (v .arity) - t)
 
 -- v is the shape of the production whose entry stands at `at`
 pub record ShapeAt (b : List ℕ) (at : ℕ) (v : Shape) : Type 0 where

@@ -61,7 +61,7 @@ own b at o = pick (ltb (o % max-settings) (width-in b at (o / max-settings))) o 
 
 -- every occurrence by itself
 abbrev pub apart : List ℕ → ℕ → List ℕ
-apart b at = labelling.labels (own b at) 0 labels
+apart b at = labelling.labels-by (own b at) 0 labels
 
 -- the ends of each pair joined
 unfoldable pub based : List ℕ → ℕ → List ℕ
