@@ -5,7 +5,7 @@ use native.Mathlib.Omega.{arith}
 use borrow.Author.Needs.{needs}
 use borrow.Fn.Kinds.{In}
 use borrow.Fn.PlainCycle.{Measures, is, falls, and}
-use Rattle.sheet.proofs.Walk.{Children, past, children-begin, children-next, children-stop, children-end, fit-of, unfit-of}
+use Rattle.sheet.proofs.Walk.{Children, children-begin, children-next, children-stop, children-end, fit-of, unfit-of}
 use Rattle.sheet.proofs.reader.subtree.Reads as subtree
 use Rattle.sheet.proofs.reader.subtree.Kinds as subtree-kinds
 use Rattle.sheet.proofs.reader.+subtree.Lts-subtree as subtree-lts
