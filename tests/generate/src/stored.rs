@@ -7,6 +7,7 @@ use crate::requests::{framed, number_request, request};
 use crate::sheets;
 use crate::tables::built;
 use oracle::book::FIG_1;
+use oracle::limits::{ENTRY, LABELS, LEVELS, MEMBERS, SETTINGS, SHEET};
 use oracle::walk::Tables;
 
 /// Fig. 1 with one byte changed.
@@ -34,10 +35,10 @@ fn books() -> Vec<Vec<u8>> {
 
 fn sheet_checks() -> Vec<Vec<u8>> {
     let small: [&[u8]; 8] = [&[0, 1, 3], &[0, 2, 4], &[0, 1], &[0, 1, 3, 3], &[0, 1, 3, 9], &[0, 9], &[3], &[]];
-    let levels = |levels: usize| request(2, &[&limits::apart(8).bytes(), &sheets::tower(levels, false)]);
+    let levels = |levels: usize| request(2, &[&limits::apart(SETTINGS as u8).bytes(), &sheets::tower(levels, false)]);
     let mut checks: Vec<_> = small.iter().map(|sheet| request(2, &[&FIG_1, sheet])).collect();
-    checks.extend([levels(64), levels(65)]);
-    checks.push(request(2, &[&FIG_1, &[0; 4097]]));
+    checks.extend([levels(LEVELS), levels(LEVELS + 1)]);
+    checks.push(request(2, &[&FIG_1, &[0; SHEET + 1]]));
     checks.push(request(2, &[&but(54, 2), &[]]));
     checks
 }
@@ -50,16 +51,16 @@ fn build(book: &[u8], sets: usize, counts: usize, up: usize, down: usize) -> Vec
 
 /// Exactly enough room and a little more, then refusals 9 and 12, 13, 10, 11 and 2.
 fn builds() -> Vec<Vec<u8>> {
-    let (up, down) = (9, 24 * 44);
+    let (up, down) = (9, 24 * ENTRY);
     vec![
         build(&FIG_1, 192, 3, up, down),
-        build(&FIG_1, 195, 5, up + 2, down + 43),
+        build(&FIG_1, 195, 5, up + 2, down + ENTRY - 1),
         build(&FIG_1, 191, 3, up, down),
         build(&FIG_1, 192, 2, up, down),
         build(&FIG_1, 192, 3, up - 1, down),
         build(&FIG_1, 193, 4, up, down - 1),
-        build(&limits::plausible(65, true).bytes(), 256, 4, 3, 2),
-        build(&limits::feasible(65).bytes(), 384, 6, 3, 2),
+        build(&limits::plausible(MEMBERS + 1, true).bytes(), 256, 4, 3, 2),
+        build(&limits::feasible(MEMBERS + 1).bytes(), 384, 6, 3, 2),
         build(&but(54, 2), 1, 0, 1, 2),
     ]
 }
@@ -80,14 +81,14 @@ fn changed(change: impl Fn(&mut Tables)) -> Vec<u8> {
 /// rank, a down entry past its slice, a child's feasible rank.
 fn strangers() -> Vec<Vec<u8>> {
     vec![
-        changed(|tables| tables.feasible_counts[2] = 65),
+        changed(|tables| tables.feasible_counts[2] = MEMBERS as u8 + 1),
         changed(|tables| tables.up.truncate(1)),
         changed(|tables| tables.up.fill(2)),
         changed(|tables| tables.up[4] = 3),
         changed(|tables| tables.feasible_counts[0] = 1),
-        changed(|tables| tables.down.truncate(20 * 44 + 43)),
-        changed(|tables| tables.down[11 * 44 + 40] = 255),
-        changed(|tables| tables.down.chunks_mut(44).for_each(|entry| entry[..40].fill(255))),
+        changed(|tables| tables.down.truncate(21 * ENTRY - 1)),
+        changed(|tables| tables.down[11 * ENTRY + LABELS] = 255),
+        changed(|tables| tables.down.chunks_mut(ENTRY).for_each(|entry| entry[..LABELS].fill(255))),
     ]
 }
 
@@ -102,7 +103,7 @@ fn sheet_calls() -> Vec<Vec<u8>> {
     calls.extend(strangers());
     let high = limits::apart(1).bytes();
     let tables = built(&high).expect("small tables");
-    calls.push(number(&high, &sheets::tower(65, true), &tables, 1, 1));
+    calls.push(number(&high, &sheets::tower(LEVELS + 1, true), &tables, 1, 1));
     calls.push(many_nodes());
     calls
 }
@@ -131,7 +132,7 @@ fn four_or_none(fours: usize, sheet: &mut Vec<u8>) {
     (0..4).for_each(|child| four_or_none((fours - 1 + child) / 4, sheet));
 }
 
-/// Labels in use, an unused one, 255, the entry past the last one and one that times 44 comes round to entry 0.
+/// Labels in use, an unused one, 255, the entry past the last one and one that times its size comes round to entry 0.
 fn blocks() -> Vec<Vec<u8>> {
     let down = built(&FIG_1).expect("Fig. 1 has tables").down;
     let asked = [(5, 0), (5, 1), (5, 9), (5, 255), (23, 0), (24, 0), (1 << 62, 0), (u64::MAX, 0)];
@@ -150,9 +151,9 @@ fn malformed() -> Vec<Vec<u8>> {
         cut,
         request(1, &[&[0; 40_001]]),
         request(2, &[&FIG_1]),
-        request(3, &[&FIG_1, &[0; 767], &[0; 3], &[0; 768], &[0; 3], &[0; 9], &[0; 44]]),
-        request(5, &[&[0; 44], &[0; 7], &[0]]),
-        request(5, &[&[0; 44], &[0; 8], &[]]),
+        request(3, &[&FIG_1, &[0; 767], &[0; 3], &[0; 768], &[0; 3], &[0; 9], &[0; ENTRY]]),
+        request(5, &[&[0; ENTRY], &[0; 7], &[0]]),
+        request(5, &[&[0; ENTRY], &[0; 8], &[]]),
     ]
 }
 
