@@ -9,13 +9,12 @@ use lib.ListN.{getD}
 use Rattle.chains.specs.Grammar.{Occ, Grammar, Lawful}
 use Rattle.chains.specs.Tree.{Bush, nil, grow, size, flat, Kinded, Root, Inst, At, Sub, roots}
 use Rattle.chains.specs.Chain.{Edge, Chain, RootChains, NodeChains, Slotwise, Closure}
-use Rattle.chains.specs.Grouping.{Says, Alike, Each, Members}
-use Rattle.chains.specs.Plausible.{Plausible}
-use Rattle.chains.specs.Feasible.{Feasible, root, down, Chosen}
+use Rattle.chains.specs.Grouping.{Says, Alike, Each}
+use Rattle.chains.specs.Feasible.{Chosen}
 use Rattle.chains.specs.Choice.{kid-codes, ChosenUp, ChosenDown}
 use Rattle.chains.proofs.Local.{closure-iff}
 use Rattle.chains.proofs.Upward.{Up, Nowhere, chain-iff-up}
-use Rattle.chains.proofs.WellKinded.{kinded-fits, sub-kinded, sub-fits, root-kind, root-kids, one-tree}
+use Rattle.chains.proofs.WellKinded.{kinded-fits, sub-kinded, sub-fits, root-kind, one-tree}
 use Rattle.chains.proofs.Nodes.{sub-in, sub-one, sub-flat, sub-child, parent}
 use Rattle.chains.proofs.Around.{around-all}
 use Rattle.chains.proofs.Downward.{Through, Handed, Exactly, down-nodes}
@@ -67,12 +66,6 @@ module _ (G : Grammar) (L : Lawful G) (U : ℕ → ℕ) where
             let fits = sub-fits G f 0 i q ds (kinded-fits G L f (k ∷ []) kinded) s in
             let kids = closure-iff G q (λ a b. ⊥) (λ a b. ⊥) (Each G (G .kids q) (kid-codes U i ds)) (Up G ds) (λ a b. Iff·rfl) (kids-up i q ds s) in
             Iff·trans (kids (0, a) (0, b)) (Iff·symm (chain-iff-up G (grow q ds nil) 0 0 0 a b fits refl))
-
-    -- So every node's code is plausible for its kind.
-    pub node-plausible : (i q : ℕ) (ds : Bush) → Sub f 0 i q ds → Plausible G (G .left q) (U i)
-    node-plausible i q ds s =
-        let (there, below) = sub-kinded G f (k ∷ []) 0 i q ds kinded s in
-        (grow q ds nil, ((there, refl), below, tt), subtree-says i q ds s)
 
     -- ── and a code for each node from the root down ──
     module _ (F : ℕ → ℕ) (fall : ChosenDown G f U F) where
@@ -133,39 +126,3 @@ module _ (G : Grammar) (L : Lawful G) (U : ℕ → ℕ) where
               let e : G .left q ≡ getD (G .kids p) j 0 = ap (λ q. G .left q) eq ∙ hd .1 in
               rw e (says-iff (G .settings (getD (G .kids p) j 0)) (F i) (Onto G U F m p cs j) (NodeChains G f i)
               (λ a b. Iff·symm (entries m p cs t (suc j, a) (suc j, b) (i, a) (i, b) (r, refl) (r, refl))) (fall .child m p cs t j i r))
-
-      -- ── every node's second code is feasible for its kind, if the tree is one of the start ──
-      plausible-roots : (g : Bush) (ks : List ℕ) (n : ℕ) → Kinded G g ks → ((i q : ℕ) (ds : Bush) → Sub g n i q ds → Sub f 0 i q ds)
-          → Members (Plausible G) ks (map U (roots g n))
-      plausible-roots nil [] n h in-f = tt
-      plausible-roots nil (x ∷ ks) n h in-f = absurd h
-      plausible-roots (grow p cs rest) [] n h in-f = absurd h
-      plausible-roots (grow p cs rest) (x ∷ ks) n h in-f = (
-        rw (← h .0 .1) (node-plausible n p cs (in-f n p cs (inl (refl, refl, refl)))),
-        plausible-roots rest ks (suc (n + size cs)) (h .2) (λ i q ds s. in-f i q ds (inr (inr s))),
-      )
-
-      feasible-below : (g : Bush) (ks : List ℕ) (n : ℕ) → Kinded G g ks → ((i q : ℕ) (ds : Bush) → Sub g n i q ds → Sub f 0 i q ds)
-          → ((j m : ℕ) → Root g n j m → Feasible G (getD ks j 0) (F m)) → (i q : ℕ) (ds : Bush) → Sub g n i q ds → Feasible G (G .left q) (F i)
-      feasible-below nil ks n h in-f tops i q ds s = absurd s
-      feasible-below (grow p cs rest) [] n h in-f tops i q ds s = absurd h
-      feasible-below (grow p cs rest) (x ∷ ks) n h in-f tops i q ds (inl (ei, ep, ec)) = rw (ei, ← ep, h .0 .1) (tops 0 n refl)
-      feasible-below (grow p cs rest) (x ∷ ks) n h in-f tops i q ds (inr (inl s)) =
-          let here = in-f n p cs (inl (refl, refl, refl)) in
-          let mine : Feasible G (G .left p) (F n) = rw (h .0 .1) (tops 0 n refl) in
-          let below : (i q : ℕ) (ds : Bush) → Sub cs (suc n) i q ds → Sub f 0 i q ds = λ i q ds s. in-f i q ds (inr (inl s)) in
-          feasible-below cs (G .kids p) (suc n) (h .1) below
-          (λ j m r. down p j (F n) (kid-codes U n cs) (h .0 .0) (root-kids G cs (G .kids p) (suc n) j m (h .1) r) mine
-          (plausible-roots cs (G .kids p) (suc n) (h .1) below) (fall .child n p cs here j m r)) i q ds s
-      feasible-below (grow p cs rest) (x ∷ ks) n h in-f tops i q ds (inr (inr s)) =
-          feasible-below rest ks (suc (n + size cs)) (h .2) (λ i q ds s. in-f i q ds (inr (inr s))) (λ j m r. tops (suc j) m r) i q ds s
-
-      pub node-feasible : k ≡ G .start → (i q : ℕ) (ds : Bush) → Sub f 0 i q ds → Feasible G (G .left q) (F i)
-      node-feasible e = feasible-below f (k ∷ []) 0 kinded (λ i q ds s. s) tops
-        where
-          tops : (j m : ℕ) → Root f 0 j m → Feasible G (getD (k ∷ []) j 0) (F m)
-          tops j m r =
-              let (ej, em) = one-tree G f k 0 j m kinded r in
-              let (q, es, s, hd) = root-kind G f (k ∷ []) 0 0 0 kinded (rw (ej, em) at r) in
-              let plain : Plausible G k (U 0) = rw (← hd .1) (node-plausible 0 q es s) in
-              rw (ej, em, fall .root, e) (root (rw e at plain))

@@ -1,16 +1,14 @@
 -- The walk over a production's slots: a slot's code may be tied, and the slot then dropped, before the others' codes are chosen.
-use mathlib.Core.Path.{_≡_, refl, sym, _∙_, subst}
+use mathlib.Core.Path.{_≡_, refl, sym, subst}
 use mathlib.Core.Logic.{_⊎_, inl, inr, _↔_}
-use Prim.Native.Nat.{ℕ, _-_, _<_}
-use native.Mathlib.Omega.{arith}
+use Prim.Native.Nat.{ℕ, _<_}
 use borrow.Author.Tests.{eq-eqb, ne-eqb}
 use lib.Dec.{eqb}
 use Rattle.lists.specs.Pick.{pick}
-use Rattle.lists.proofs.Order.{by-order}
-use Rattle.chains.specs.Grammar.{Occ, Grammar, slots, width}
+use Rattle.chains.specs.Grammar.{Occ, Grammar, width}
 use Rattle.chains.specs.Chain.{Eqv, done, fwd}
 use Rattle.chains.specs.Grouping.{label, Says}
-use Rattle.chains.specs.Gather.{InSlot, TiedTo, AllTied, Result, Remaining, Outside, UpTo, Towards}
+use Rattle.chains.specs.Gather.{InSlot, TiedTo, AllTied, Result, Remaining}
 use Rattle.chains.proofs.Closure.{bind, more, glue}
 use Rattle.chains.proofs.Says.{says-map, says-unique}
 
@@ -142,93 +140,7 @@ module _ (G : Grammar) (p t : ℕ) where
               ));
         }
 
--- ---- upward: children j, j - 1, .. 1, seen on slot 0
-module _ (G : Grammar) (p : ℕ) (Codes : ℕ → ℕ → Type 0) (ρ : Occ → Occ → Type 0) (x : ℕ) where
-  -- THEOREM: no child left
-  pub up-none : Result G p 0 Codes (UpTo 0) ρ x ↔ Says (width G p 0) x (λ a b. Eqv ρ (0, a) (0, b))
-  up-none = result-none G p 0 Codes (UpTo 0) ρ x (λ s h. omega arith)
-
-  -- THEOREM: child j is tied and dropped, children 1 to j - 1 are left
-  pub up-more : (j : ℕ) → 0 < j
-      → Result G p 0 Codes (UpTo j) ρ x ↔ ((c : ℕ) × Codes j c × Result G p 0 Codes (UpTo (j - 1)) (Remaining (Outside j) (TiedTo G p j c ρ)) x)
-  up-more j h =
-      let a = result-open G p 0 Codes (UpTo j) (λ s. (s ≡ j) ⊎ UpTo (j - 1) s) ρ x (λ s. (split s, join s)) in
-      let b = result-more G p 0 Codes (UpTo (j - 1)) ρ j (λ u. omega arith) (Outside j) (λ a e. omega arith) (λ s a u e. omega arith) x in
-      (λ r. b .0 (a .0 r), λ r. a .1 (b .1 r))
-    where
-      split : (s : ℕ) → UpTo j s → (s ≡ j) ⊎ UpTo (j - 1) s
-      split s u = by-order ((s ≡ j) ⊎ UpTo (j - 1) s) s j inl (λ l. inr (omega arith)) (λ l. absurd (omega arith))
-
-      join : (s : ℕ) → (s ≡ j) ⊎ UpTo (j - 1) s → UpTo j s
-      join s (inl e) = omega arith
-      join s (inr u) = omega arith
-
--- ---- downward to slot t: slots j - 1, .., 0 but t, then t itself
-module _ (G : Grammar) (p t : ℕ) (Codes : ℕ → ℕ → Type 0) (ρ : Occ → Occ → Type 0) (x : ℕ) where
-  -- THEOREM: slot t is tied last, and not dropped
-  pub towards-none : Result G p t Codes (Towards t 0) ρ x ↔ ((c : ℕ) × Codes t c × Says (width G p t) x (λ a b. Eqv (TiedTo G p t c ρ) (t, a) (t, b)))
-  towards-none =
-      let a = result-open G p t Codes (Towards t 0) (λ s. (s ≡ t) ⊎ ⊥) ρ x (λ s. (split s, join s)) in
-      let b = result-more G p t Codes (λ s. ⊥) ρ t (λ u. u) (λ o. Unit {0}) (λ a. tt) (λ s a u. tt) x in
-      (λ r. to (b .0 (a .0 r)), λ r. a .1 (b .1 (from r)))
-    where
-      split : (s : ℕ) → Towards t 0 s → (s ≡ t) ⊎ ⊥
-      split s (inl l) = absurd (omega arith)
-      split s (inr e) = inl e
-
-      join : (s : ℕ) → (s ≡ t) ⊎ ⊥ → Towards t 0 s
-      join s (inl e) = inr e
-
-      all-kept : (c a b : ℕ) → Eqv (Remaining (λ o. Unit {0}) (TiedTo G p t c ρ)) (t, a) (t, b) ↔ Eqv (TiedTo G p t c ρ) (t, a) (t, b)
-      all-kept c a b = (bind (λ o q k. k .2), more (λ o q e. (tt, tt, fwd done e)))
-
-      to : (c : ℕ) × Codes t c × Result G p t Codes (λ s. ⊥) (Remaining (λ o. Unit {0}) (TiedTo G p t c ρ)) x
-          → (c : ℕ) × Codes t c × Says (width G p t) x (λ a b. Eqv (TiedTo G p t c ρ) (t, a) (t, b))
-      to (c, m, r) = (c, m, says-map (result-none G p t Codes (λ s. ⊥) (Remaining (λ o. Unit {0}) (TiedTo G p t c ρ)) x (λ s u. u) .0 r) (λ a b ha hb. all-kept c a b))
-
-      from : (c : ℕ) × Codes t c × Says (width G p t) x (λ a b. Eqv (TiedTo G p t c ρ) (t, a) (t, b))
-          → (c : ℕ) × Codes t c × Result G p t Codes (λ s. ⊥) (Remaining (λ o. Unit {0}) (TiedTo G p t c ρ)) x
-      from (c, m, s) =
-          (c, m, result-none G p t Codes (λ s. ⊥) (Remaining (λ o. Unit {0}) (TiedTo G p t c ρ)) x (λ s u. u) .1 (says-map s (λ a b ha hb. (all-kept c a b .1, all-kept c a b .0))))
-
-  -- THEOREM: slot t is passed over
-  pub towards-skip : (j : ℕ) → 0 < j → j - 1 ≡ t → Result G p t Codes (Towards t j) ρ x ↔ Result G p t Codes (Towards t (j - 1)) ρ x
-  towards-skip j h e = result-open G p t Codes (Towards t j) (Towards t (j - 1)) ρ x (λ s. (split s, join s))
-    where
-      split : (s : ℕ) → Towards t j s → Towards t (j - 1) s
-      split s (inl l) = by-order (Towards t (j - 1) s) s t inr (λ m. inl (omega arith)) (λ m. absurd (omega arith))
-      split s (inr f) = inr f
-
-      join : (s : ℕ) → Towards t (j - 1) s → Towards t j s
-      join s (inl l) = inl (omega arith)
-      join s (inr f) = inr f
-
-  -- THEOREM: any other slot is tied and dropped
-  pub towards-more : (j : ℕ) → 0 < j → (j - 1 ≡ t → ⊥)
-      → Result G p t Codes (Towards t j) ρ x ↔ ((c : ℕ) × Codes (j - 1) c × Result G p t Codes (Towards t (j - 1)) (Remaining (Outside (j - 1)) (TiedTo G p (j - 1) c ρ)) x)
-  towards-more j h n =
-      let a = result-open G p t Codes (Towards t j) (λ s. (s ≡ j - 1) ⊎ Towards t (j - 1) s) ρ x (λ s. (split s, join s)) in
-      let b = result-more G p t Codes (Towards t (j - 1)) ρ (j - 1) shut (Outside (j - 1)) (λ a e. n (sym e)) later x in
-      (λ r. b .0 (a .0 r), λ r. a .1 (b .1 r))
-    where
-      shut : Towards t (j - 1) (j - 1) → ⊥
-      shut (inl l) = omega arith
-      shut (inr e) = n e
-
-      later : (s a : ℕ) → Towards t (j - 1) s → Outside (j - 1) (s, a)
-      later s a (inl l) e = omega arith
-      later s a (inr f) e = n (sym e ∙ f)
-
-      split : (s : ℕ) → Towards t j s → (s ≡ j - 1) ⊎ Towards t (j - 1) s
-      split s (inl l) = by-order ((s ≡ j - 1) ⊎ Towards t (j - 1) s) s (j - 1) inl (λ m. inr (inl m)) (λ m. absurd (omega arith))
-      split s (inr f) = inr (inr f)
-
-      join : (s : ℕ) → (s ≡ j - 1) ⊎ Towards t (j - 1) s → Towards t j s
-      join s (inl e) = inl (omega arith)
-      join s (inr (inl l)) = inl (omega arith)
-      join s (inr (inr f)) = inr f
-
--- ---- bounds: tying more never parts
+-- ---- bounds: tying more never parts. Nothing cites these laws yet: by them request 6 (seven children) passes over what can add nothing
 module _ (G : Grammar) (p t : ℕ) (Codes : ℕ → ℕ → Type 0) (Open : ℕ → Type 0) (ρ : Occ → Occ → Type 0) (x : ℕ) where
   -- ρ with every code of every open slot tied
   abbrev pub Most : Occ → Occ → Type 0

@@ -6,7 +6,7 @@ use Prim.Native.Nat.{ℕ, zero, suc, _+_, _≤_, _<_}
 use native.Mathlib.Omega.{arith}
 use lib.ListN.{length, length-append}
 use Rattle.chains.specs.Grammar.{Occ, Grammar}
-use Rattle.chains.specs.Tree.{Bush, nil, grow, size, flat, Kinded, Root, Slot, Inst, At, Sub}
+use Rattle.chains.specs.Tree.{Bush, nil, grow, size, flat, Kinded, Root, Slot, Inst, At, Sub, roots}
 use Rattle.chains.specs.Chain.{Own, Edge}
 use Rattle.chains.specs.Replace.{Hole, here, inside, after, plug, spot, prefix, suffix, Moves, Shifts}
 use Rattle.chains.proofs.Range.{root-in, own-in, edge-in}
@@ -259,3 +259,85 @@ module _ (G : Grammar) where
     sub-counterpart (after p₀ cs₀ h) n m m′ p cs mv (inr (inr s)) =
         let (p′, cs′, s′, e, u) = sub-counterpart h (suc (n + size cs₀)) m m′ p cs mv s in
         (p′, cs′, inr (inr s′), e, u)
+
+-- ── the other nodes outside keep their productions, and their children move with them ──
+-- node by node, the ones are the others moved
+abbrev pub AllMove : ℕ → ℕ → ℕ → List ℕ → List ℕ → Type 0
+AllMove i d d′ [] [] = Unit {0}
+AllMove i d d′ [] (m′ ∷ ms′) = ⊥
+AllMove i d d′ (m ∷ ms) [] = ⊥
+AllMove i d d′ (m ∷ ms) (m′ ∷ ms′) = Moves i d d′ m m′ × AllMove i d d′ ms ms′
+
+roots-before : (i d d′ : ℕ) (f : Bush) (n : ℕ) → n + size f ≤ suc i → AllMove i d d′ (roots f n) (roots f n)
+roots-before i d d′ nil n h = tt
+roots-before i d d′ (grow p cs rest) n h = (inl (omega arith), roots-before i d d′ rest (suc (n + size cs)) (omega arith))
+
+roots-behind : (i d d′ : ℕ) (f : Bush) (n n′ : ℕ) → i + d < n → n′ + d ≡ n + d′ → AllMove i d d′ (roots f n) (roots f n′)
+roots-behind i d d′ nil n n′ h e = tt
+roots-behind i d d′ (grow p cs rest) n n′ h e =
+    (inr (omega arith), roots-behind i d d′ rest (suc (n + size cs)) (suc (n′ + size cs)) (omega arith) (omega arith))
+
+module _ (q q′ : ℕ) (ds ds′ : Bush) where
+  roots-around : (h : Hole) (n : ℕ) → AllMove (spot h n) (size ds) (size ds′) (roots (plug h q ds) n) (roots (plug h q′ ds′) n)
+  roots-around (here rest) n =
+      (inl (omega arith), roots-behind n (size ds) (size ds′) rest (suc (n + size ds)) (suc (n + size ds′)) (omega arith) (omega arith))
+  roots-around (inside p h rest) n =
+      let k = spot-in h (suc n) q ds in
+      let z = plug-size h q q′ ds ds′ in
+      let first : Moves (spot h (suc n)) (size ds) (size ds′) n n = inl (omega arith) in
+      (first, roots-behind (spot h (suc n)) (size ds) (size ds′) rest (suc (n + size (plug h q ds))) (suc (n + size (plug h q′ ds′))) (omega arith) (omega arith))
+  roots-around (after p cs h) n =
+      let k = spot-in h (suc (n + size cs)) q ds in
+      let first : Moves (spot h (suc (n + size cs))) (size ds) (size ds′) n n = inl (omega arith) in
+      (first, roots-around h (suc (n + size cs)))
+
+  -- node m′ of f has the production p, and its children are those of node m, cs, moved
+  abbrev pub Kept : ℕ → Bush → ℕ → ℕ → ℕ → ℕ → Bush → Type 0
+  Kept i f n m m′ p cs = (cs′ : Bush) × Sub f n m′ p cs′ × AllMove i (size ds) (size ds′) (roots cs (suc m)) (roots cs′ (suc m′))
+
+  kept-behind : (i : ℕ) (f : Bush) (n n′ m m′ p : ℕ) (cs : Bush) → i + size ds < m → m′ + size ds ≡ m + size ds′ → n′ + size ds ≡ n + size ds′ → Sub f n m p cs
+      → Kept i f n′ m m′ p cs
+  kept-behind i f n n′ m m′ p cs h e k s =
+      let (m″, s′, e′) = sub-move f n n′ m p cs s in
+      let em : m″ ≡ m′ = omega arith in
+      (cs, rw em at s′, roots-behind i (size ds) (size ds′) cs (suc m) (suc m′) (omega arith) (omega arith))
+
+  pub sub-kept : (h : Hole) (n m m′ p : ℕ) (cs : Bush) → Moves (spot h n) (size ds) (size ds′) m m′ → (m ≡ spot h n → ⊥) → Sub (plug h q ds) n m p cs
+      → Kept (spot h n) (plug h q′ ds′) n m m′ p cs
+  sub-kept (here rest) n m m′ p cs mv other (inl (em, ep, ec)) = absurd (other em)
+  sub-kept (here rest) n m m′ p cs mv other (inr (inl s)) =
+      let i = sub-in ds (suc n) m p cs s in
+      let k = moves-on n (size ds) (size ds′) m m′ mv (omega arith) in
+      absurd (omega arith)
+  sub-kept (here rest) n m m′ p cs mv other (inr (inr s)) =
+      let i = sub-in rest (suc (n + size ds)) m p cs s in
+      let k = moves-on n (size ds) (size ds′) m m′ mv (omega arith) in
+      let (cs′, s′, a) = kept-behind n rest (suc (n + size ds)) (suc (n + size ds′)) m m′ p cs (k .0) (k .1) (omega arith) s in
+      (cs′, inr (inr s′), a)
+  sub-kept (inside p₀ h rest) n m m′ p cs mv other (inl (em, ep, ec)) =
+      let i = spot-in h (suc n) q ds in
+      let e : m′ ≡ n = moves-stay (spot h (suc n)) (size ds) (size ds′) m m′ mv (omega arith) ∙ em in
+      (plug h q′ ds′, inl (e, ep, refl), rw (em, e, ← ec) (roots-around h (suc n)))
+  sub-kept (inside p₀ h rest) n m m′ p cs mv other (inr (inl s)) =
+      let (cs′, s′, a) = sub-kept h (suc n) m m′ p cs mv other s in
+      (cs′, inr (inl s′), a)
+  sub-kept (inside p₀ h rest) n m m′ p cs mv other (inr (inr s)) =
+      let i = sub-in rest (suc (n + size (plug h q ds))) m p cs s in
+      let l = spot-in h (suc n) q ds in
+      let k = moves-on (spot h (suc n)) (size ds) (size ds′) m m′ mv (omega arith) in
+      let z = plug-size h q q′ ds ds′ in
+      let (cs′, s′, a) = kept-behind (spot h (suc n)) rest (suc (n + size (plug h q ds))) (suc (n + size (plug h q′ ds′))) m m′ p cs (k .0) (k .1) (omega arith) s in
+      (cs′, inr (inr s′), a)
+  sub-kept (after p₀ cs₀ h) n m m′ p cs mv other (inl (em, ep, ec)) =
+      let i = spot-in h (suc (n + size cs₀)) q ds in
+      let e = moves-stay (spot h (suc (n + size cs₀))) (size ds) (size ds′) m m′ mv (omega arith) in
+      let c = ap size ec in
+      (cs, inl (e ∙ em, ep, ec), rw e (roots-before (spot h (suc (n + size cs₀))) (size ds) (size ds′) cs (suc m) (omega arith)))
+  sub-kept (after p₀ cs₀ h) n m m′ p cs mv other (inr (inl s)) =
+      let l = sub-in cs₀ (suc n) m p cs s in
+      let i = spot-in h (suc (n + size cs₀)) q ds in
+      let e = moves-stay (spot h (suc (n + size cs₀))) (size ds) (size ds′) m m′ mv (omega arith) in
+      (cs, inr (inl (rw e s)), rw e (roots-before (spot h (suc (n + size cs₀))) (size ds) (size ds′) cs (suc m) (omega arith)))
+  sub-kept (after p₀ cs₀ h) n m m′ p cs mv other (inr (inr s)) =
+      let (cs′, s′, a) = sub-kept h (suc (n + size cs₀)) m m′ p cs mv other s in
+      (cs′, inr (inr s′), a)

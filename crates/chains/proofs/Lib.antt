@@ -5,13 +5,11 @@ pub mod Local
 pub mod Upward
 pub mod Labels
 pub mod Appearance
-pub mod LabelLoops
 pub mod Codes
 pub mod Decided
 pub mod Says
 pub mod Step
 pub mod WellKinded
-pub mod Gluing
 pub mod Plausible
 pub mod Feasible
 pub mod Gather

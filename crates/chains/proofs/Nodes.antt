@@ -8,7 +8,7 @@ use native.Mathlib.Decide.{decLe}
 use lib.ListN.{length, getD, length-append, List·getD-append}
 use lib.Seq.{getD-append-add}
 use Rattle.chains.specs.Grammar.{Occ, Grammar, Lawful}
-use Rattle.chains.specs.Tree.{Bush, nil, grow, size, count, flat, Kinded, Root, Slot, Inst, At, Sub, roots, Fitted}
+use Rattle.chains.specs.Tree.{Bush, nil, grow, size, flat, Kinded, Root, Slot, Inst, At, Sub, roots, Fitted}
 use Rattle.chains.specs.Chain.{Edge, Chain}
 use Rattle.chains.proofs.Closure.{real-ends}
 use Rattle.chains.proofs.Range.{In}
@@ -99,10 +99,6 @@ parent (grow p cs rest) n m q ds (inr (inr s)) =
     ]
 
 -- ── the list of roots ──
-pub roots-length : (f : Bush) (n : ℕ) → length (roots f n) ≡ count f
-roots-length nil n = refl
-roots-length (grow p cs rest) n = ap suc (roots-length rest (suc (n + size cs)))
-
 pub roots-at : (f : Bush) (n j m d : ℕ) → Root f n j m → getD (roots f n) j d ≡ m
 roots-at nil n j m d r = absurd r
 roots-at (grow p cs rest) n zero m d r = sym r

@@ -6,6 +6,7 @@ use Prim.Native.Nat.{ℕ, zero, suc, _≤_, _<_}
 use native.Mathlib.Omega.{arith}
 use native.Mathlib.Decide.{ℕ-discrete}
 use lib.ListN.{length, getD}
+use Rattle.chains.specs.Limits.{max-settings}
 use Rattle.chains.specs.Grammar.{Occ, Grammar, Lawful, slots, width}
 use Rattle.chains.specs.Chain.{Eqv, done, fwd, Slotwise, Join, Closure}
 use Rattle.chains.specs.Grouping.{Says, Alike, Each}
@@ -49,7 +50,7 @@ module _ (G : Grammar) (p : ℕ) (τ : ℕ → ℕ → ℕ → Type 0) where
 
 -- ---- so that on each slot a code says it
 module _ (G : Grammar) (L : Lawful G) (p : ℕ) (hp : p < G .prods) where
-  pub width-few : (s : ℕ) → s < length (slots G p) → width G p s ≤ 8
+  pub width-few : (s : ℕ) → s < length (slots G p) → width G p s ≤ max-settings
   width-few zero h = L .few-settings (G .left p) (L .left-in p hp)
   width-few (suc j) h = L .few-settings (getD (G .kids p) j 0) (L .kids-in p j hp (omega arith))
 

@@ -1,7 +1,6 @@
 -- Dependences of a whole tree, and the chains of them, in either direction.
 use mathlib.Core.Path.{_≡_}
 use mathlib.Core.Logic.{_⊎_}
-use mathlib.Core.List.{List, [], _∷_}
 use Prim.Native.Nat.{ℕ, zero, suc, _+_}
 use Rattle.chains.specs.Grammar.{Occ, Grammar, Tied}
 use Rattle.chains.specs.Tree.{Bush, nil, grow, size, Inst, At}

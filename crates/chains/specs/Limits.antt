@@ -24,3 +24,7 @@ max-nodes = 4096
 
 abbrev pub max-levels : ℕ
 max-levels = 64
+
+-- the label of what has none
+abbrev pub no-label : ℕ
+no-label = 255

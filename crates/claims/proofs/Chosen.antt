@@ -10,6 +10,7 @@ use lib.Seq.{getD-take}
 use Rattle.lists.specs.Part.{part}
 use Rattle.lists.proofs.Parts.{getD-part}
 use Rattle.lists.proofs.Carries.{Carries}
+use Rattle.chains.specs.Limits.{max-settings, max-kids}
 use Rattle.chains.specs.Grammar.{Occ, Grammar, Lawful, width, Exists}
 use Rattle.chains.specs.Tree.{Bush, nil, grow, size, flat, Kinded, Root, Sub, roots}
 use Rattle.chains.specs.Chain.{Slotwise, Closure}
@@ -38,13 +39,13 @@ module _ (T : Tables) (e : ℕ) where
   abbrev bytes : List ℕ
   bytes = part (e * entry-bytes) entry-bytes (T .down)
 
-  rank-byte : (j : ℕ) → j < 4 → getD bytes (labels + j) none ≡ given T e j
+  rank-byte : (j : ℕ) → j < max-kids → getD bytes (labels + j) none ≡ given T e j
   rank-byte j h =
       let a : e * entry-bytes + (labels + j) ≡ e * entry-bytes + labels + j = omega arith in
       getD-part (e * entry-bytes) entry-bytes (T .down) (labels + j) none (omega arith) ∙ ap (λ i. getD (T .down) i none) a
 
-  label-byte : (s a : ℕ) → s * 8 + a < labels → getD (take labels bytes) (s * 8 + a) none ≡ label-in T e s a
-  label-byte s a h = getD-take labels bytes (s * 8 + a) none h ∙ getD-part (e * entry-bytes) entry-bytes (T .down) (s * 8 + a) none (omega arith)
+  label-byte : (s a : ℕ) → s * max-settings + a < labels → getD (take labels bytes) (s * max-settings + a) none ≡ label-in T e s a
+  label-byte s a h = getD-take labels bytes (s * max-settings + a) none h ∙ getD-part (e * entry-bytes) entry-bytes (T .down) (s * max-settings + a) none (omega arith)
 
 -- an occurrence that exists has its byte
 module _ (G : Grammar) (L : Lawful G) (p : ℕ) (there : p < G .prods) (o : Occ) (x : Exists G p o) where
@@ -53,7 +54,7 @@ module _ (G : Grammar) (L : Lawful G) (p : ℕ) (there : p < G .prods) (o : Occ)
 
   byte-occ : occ (number o) ≡ o
   byte-occ =
-      let h : o .1 < 8 = omega (arith, x .1, width-few G L p there (o .0) (x .0)) in
+      let h : o .1 < max-settings = omega (arith, x .1, width-few G L p there (o .0) (x .0)) in
       Σ-path (omega arith) (omega arith)
 
 -- the code of node i of the sheet l: the one at its rank in its kind's set
@@ -151,8 +152,8 @@ module _ {G : Grammar} (L : Lawful G) {s f : List ℕ} {T : Tables} (served : Se
     handed i q ds t l j m r =
         let (there, below) = in-place i q ds t in
         let few = root-kids G ds (G .kids q) (suc i) j m below r in
-        let four : j < 4 = omega (arith, L .few-kids q there) in
-        rw (here i q ds t .handed j m r, ← rank-byte T (down-entry-of nodes i) j four) (entry-read i q ds t l .ranks j few)
+        let few-enough : j < max-kids = omega (arith, L .few-kids q there) in
+        rw (here i q ds t .handed j m r, ← rank-byte T (down-entry-of nodes i) j few-enough) (entry-read i q ds t l .ranks j few)
 
     all-below : (g : Bush) (ks : List ℕ) (n : ℕ) → Kinded G g ks → ((i q : ℕ) (ds : Bush) → Sub g n i q ds → Sub tree 0 i q ds)
         → ((j m : ℕ) → Root g n j m → feasible-rank nodes m < getD (T .feasible-counts) (getD ks j 0) 0)

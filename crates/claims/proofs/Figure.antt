@@ -3,9 +3,10 @@ use mathlib.Core.Path.{_≡_, refl}
 use mathlib.Core.Logic.{inl, inr}
 use mathlib.Core.Bool.{true}
 use mathlib.Core.List.{List, [], _∷_, _++_}
-use Prim.Native.Nat.{ℕ, zero, suc, _-_, _<_}
+use Prim.Native.Nat.{ℕ, zero, suc, _-_, _*_, _<_}
 use native.Mathlib.Omega.{arith}
 use lib.ListN.{length, getD, replicate}
+use Rattle.chains.specs.Limits.{max-settings, max-kids, max-members}
 use Rattle.chains.specs.Labels.{relabel, joins, labels-by, index, add, canonFrom}
 use Rattle.chains.specs.Grouping.{unpack, pack}
 use Rattle.chains.specs.State.{pairs-from}
@@ -13,7 +14,7 @@ use Rattle.book.specs.Format.{entry, ties-of, grammar}
 use Rattle.bookcheck.specs.Refusals.{OutOfRange, Applies}
 use Rattle.bookcheck.specs.Accepted.{Accepted}
 use Rattle.bookcheck.proofs.Accepted.{accepted-book}
-use Rattle.ranks.specs.Entries.{choices, choice, up-start, down-start, none}
+use Rattle.ranks.specs.Entries.{choices, choice, up-start, down-start, labels, none}
 use Rattle.tables.specs.Entries.{picked, UpTable, DownTable}
 use Rattle.tables.specs.State.{based}
 use Rattle.tables.specs.Promise.{Lent}
@@ -49,9 +50,9 @@ pub book-accepted : Accepted book
 book-accepted = accepted-book book 3 5 (refl, λ f a. book-free (f .0) (f .1) a) .0
 
 -- ── the memory that a build leaves ──
--- codes in 64 places, zeros behind
+-- codes in a set's places, zeros behind
 abbrev padded : List ℕ → List ℕ
-padded codes = codes ++ replicate (64 - length codes) 0
+padded codes = codes ++ replicate (max-members - length codes) 0
 
 abbrev plausible-sets : List ℕ
 plausible-sets = padded (0 ∷ 8 ∷ []) ++ padded (0 ∷ 72 ∷ 576 ∷ []) ++ padded (72 ∷ 576 ∷ [])
@@ -108,7 +109,7 @@ filled (suc n) (x ∷ l) tail = x ∷ filled n l tail
 
 abbrev bytes-of : List EntryRow → List ℕ
 bytes-of [] = []
-bytes-of (r ∷ rs) = filled 8 (r .0) (filled 8 (r .1) (filled 24 [] (filled 4 (r .2) (bytes-of rs))))
+bytes-of (r ∷ rs) = filled max-settings (r .0) (filled max-settings (r .1) (filled (labels - 2 * max-settings) [] (filled max-kids (r .2) (bytes-of rs))))
 
 abbrev pub left : Lent
 left = record {

@@ -26,10 +26,11 @@ use Rattle.ranks.specs.Entries.{choices, up-start, down-start}
 use Rattle.members.specs.Sets.{members, Has, member, Placed}
 use Rattle.tables.specs.Sets.{Holds}
 use Rattle.tables.specs.State.{based}
-use Rattle.tables.specs.Promise.{up-entries, down-entries, Applies, of-book, short-slice, over-plausible, over-feasible, short-up, short-down, Counted, BuildDue}
+use Rattle.tables.specs.Promise.{Lent, up-entries, down-entries, Applies, of-book, short-slice, over-plausible, over-feasible, short-up, short-down, Counted, BuildDue}
 use Rattle.tables.proofs.Holds.{holds-counted, over-never, counted-once}
 use Rattle.tables.proofs.Entries.{up-entries-same, down-entries-same}
 use Rattle.claims.specs.Examples.{book, S, X, Y, room}
+use Rattle.claims.specs.NotRefused.{Roomy}
 use Rattle.claims.proofs.Tests.{all-below, each-below}
 use Rattle.claims.proofs.Worked.{tie-all, up-state, up-says, down-state, down-says}
 use Rattle.claims.proofs.Closed.{closed-up, closed-down}
@@ -203,27 +204,28 @@ counted-plausible c a = counted-once (Plausible G) c (left .plausible-counts) a 
 counted-feasible : (d : List ℕ) → Counted (G .kinds) (Feasible G) d → (k : ℕ) → k < G .kinds → getD d k 0 ≡ getD (left .feasible-counts) k 0
 counted-feasible d a = counted-once (Feasible G) d (left .feasible-counts) a (holds-counted (omega arith) (omega arith) feasible-held)
 
-no-row : (n p : ℕ) → Applies book room n p → ⊥
-no-row n p (of-book a) = book-free n p a
-no-row n p (short-slice (inl h)) = omega arith
-no-row n p (short-slice (inr (inl h))) = omega arith
-no-row n p (short-slice (inr (inr (inl h)))) = omega arith
-no-row n p (short-slice (inr (inr (inr h)))) = omega arith
-no-row n p (over-plausible o) = over-never (omega arith) (omega arith) plausible-held o
-no-row n p (over-feasible o) = over-never (omega arith) (omega arith) feasible-held o
-no-row n p (short-up c a h) =
+-- no row applies to a build in memory that is enough
+pub no-row : {m : Lent} → Roomy m → (n p : ℕ) → Applies book m n p → ⊥
+no-row roomy n p (of-book a) = book-free n p a
+no-row roomy n p (short-slice (inl h)) = omega (arith, roomy .plausible)
+no-row roomy n p (short-slice (inr (inl h))) = omega (arith, roomy .plausible-counts)
+no-row roomy n p (short-slice (inr (inr (inl h)))) = omega (arith, roomy .feasible)
+no-row roomy n p (short-slice (inr (inr (inr h)))) = omega (arith, roomy .feasible-counts)
+no-row roomy n p (over-plausible o) = over-never (omega arith) (omega arith) plausible-held o
+no-row roomy n p (over-feasible o) = over-never (omega arith) (omega arith) feasible-held o
+no-row roomy n p (short-up c a h) =
     let e = up-entries-same G (λ p j l k. lawful .kids-in p j l k) c (left .plausible-counts) (counted-plausible c a) in
-    omega (arith, up-nine)
-no-row n p (short-down c d a b h) =
+    omega (arith, up-nine, roomy .up)
+no-row roomy n p (short-down c d a b h) =
     let e = down-entries-same G (λ p j l k. lawful .kids-in p j l k) c (left .plausible-counts) (counted-plausible c a) (λ p l. lawful .left-in p l) d (left .feasible-counts)
     (counted-feasible d b) in
-    omega (arith, down-many)
+    omega (arith, down-many, roomy .down)
 
 -- THEOREM: a build of Fig. 1's book in that room is accepted, with 9 up entries and 24 down entries, and leaves what was worked out
 pub figure-built : BuildDue book room (accepted (9 ∷ 24 ∷ [])) left
 unfolding up-start down-start choices entry
 figure-built = (
-  no-row,
+  no-row (record { plausible = omega arith; plausible-counts = omega arith; feasible = omega arith; feasible-counts = omega arith; up = omega arith; down = omega arith }),
   record {
     plausible = plausible-held;
     feasible = feasible-held;

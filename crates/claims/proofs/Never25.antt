@@ -5,7 +5,7 @@ use mathlib.Core.List.{List, [], _∷_, _++_}
 use Prim.Native.Nat.{ℕ, suc, _+_, _*_, _≤_, _<_}
 use native.Mathlib.Omega.{arith}
 use lib.ListN.{length, getD, drop}
-use Rattle.lists.specs.Refusals.{accepted, refused}
+use Rattle.lists.specs.Refusals.{accepted}
 use Rattle.lists.proofs.Carries.{Carries}
 use Rattle.chains.specs.Grammar.{Grammar, Lawful}
 use Rattle.chains.specs.Tree.{Bush, Kinded, Sub}
@@ -14,8 +14,7 @@ use Rattle.chains.proofs.WellKinded.{kinded-count}
 use Rattle.book.specs.Format.{grammar}
 use Rattle.sheet.specs.Reading.{all-settings}
 use Rattle.sheet.specs.Refusals.{SheetDue}
-use Rattle.sheet.proofs.Refusals.{Row, books, lengths, reads, row, fault-low}
-use Rattle.bookcheck.proofs.Rows.{row-of-book}
+use Rattle.sheet.proofs.Refusals.{row}
 use Rattle.sheet.proofs.Trees.{sheet-tree}
 use Rattle.ranks.proofs.Numbers.{up-entry-below, down-entry-below}
 use Rattle.tables.specs.Promise as tables
@@ -25,6 +24,7 @@ use Rattle.numbering.specs.Promise.{Lent, TreeOf, BigCount, BadUp, BadRoot, Bad
 use Rattle.claims.specs.Build.{LeftBy}
 use Rattle.claims.specs.Own.{Never25}
 use Rattle.claims.proofs.Served.{Served, start-count, built-lawful, built-serves}
+use Rattle.claims.proofs.SheetRows.{sheet-row}
 use Rattle.claims.proofs.Chosen.{ranks-below, in-place, here, started-below, handed, feasible-below}
 
 module _ {G : Grammar} (L : Lawful G) {s f : List ℕ} {T : Tables} (served : Served G s f T) where
@@ -65,12 +65,6 @@ module _ {G : Grammar} (L : Lawful G) {s f : List ℕ} {T : Tables} (served : Se
             let (m, r) = root-exists ds (suc i) j (rw (kinded-count G ds (G .kids q) below) h) in
             let low = handed L served tree kinded told itself i q ds t (feasible-below L served tree kinded told itself i q ds t) j m r .below in
             omega (arith, here L served tree kinded told itself i q ds t .handed j m r)
-
--- ── which rows there are before 25 ──
-sheet-row : {b l : List ℕ} {n p : ℕ} → Row b l n p → n < 24
-sheet-row (books a) = let h = row-of-book a in omega arith
-sheet-row (lengths e f h) = omega arith
-sheet-row (reads ds r f) = fault-low f
 
 -- a sheet that the sheet check accepts has a tree
 tree-of : (b l checked : List ℕ) → SheetDue b l (accepted checked) → TreeOf (grammar b) l

@@ -136,6 +136,14 @@ module _ {b : List ℕ} {m m′ : Lent} {cs : List ℕ} (due : BuildDue b m (acc
         down-entries-same G (λ p j h l. built-lawful .kids-in p j h l) (T .plausible-counts) c (taken .plausible-counts)
         (λ p h. built-lawful .left-in p h) (T .feasible-counts) d (taken .feasible-counts)
 
+    -- a down entry has the same number by these counts as by those of the build
+    pub entry-taken : (p u : ℕ) (rs : List ℕ) → p < G .prods → down-entry G (T .plausible-counts) (T .feasible-counts) p u rs ≡ down-entry G c d p u rs
+    entry-taken p u rs there =
+        ap₂ _+_ (down-start-same G (λ p j h l. built-lawful .kids-in p j h l) (T .plausible-counts) c (taken .plausible-counts) (λ p h. built-lawful .left-in p h)
+        (T .feasible-counts) d (taken .feasible-counts) p (omega arith))
+        (ap₂ _+_ (ap (λ t. u * t) (kids-same G (λ p j h l. built-lawful .kids-in p j h l) (T .plausible-counts) c (taken .plausible-counts) p there))
+        (choice-same (T .plausible-counts) c (G .kids p) rs (kid-counts p there)))
+
     up-taken : UpTable G (m′ .plausible) (T .plausible-counts) (T .up)
     up-taken p rs there small =
         let small′ = ranks-same (T .plausible-counts) c (G .kids p) rs (kid-counts p there) small in
@@ -154,11 +162,7 @@ module _ {b : List ℕ} {m m′ : Lent} {cs : List ℕ} (due : BuildDue b m (acc
         let small′ = ranks-same (T .plausible-counts) c (G .kids p) rs (kid-counts p there) small in
         let low′ : u < getD d (G .left p) 0 = rw (taken .feasible-counts (G .left p) (built-lawful .left-in p there)) at low in
         let x = down-entry G c d p u rs in
-        let e : down-entry G (T .plausible-counts) (T .feasible-counts) p u rs ≡ x
-        = ap₂ _+_ (down-start-same G (λ p j h l. built-lawful .kids-in p j h l) (T .plausible-counts) c (taken .plausible-counts) (λ p h. built-lawful .left-in p h)
-        (T .feasible-counts) d (taken .feasible-counts) p (omega arith))
-        (ap₂ _+_ (ap (λ t. u * t) (kids-same G (λ p j h l. built-lawful .kids-in p j h l) (T .plausible-counts) c (taken .plausible-counts) p there))
-        (choice-same (T .plausible-counts) c (G .kids p) rs (kid-counts p there))) in
+        let e : down-entry G (T .plausible-counts) (T .feasible-counts) p u rs ≡ x = entry-taken p u rs there in
         let inside = down-entry-below G c d p (G .prods) u rs there low′ small′ in
         let whole : x * entry-bytes + entry-bytes ≤ down-entries G c d * entry-bytes = omega arith in
         let bytes : part (x * entry-bytes) entry-bytes (T .down) ≡ part (x * entry-bytes) entry-bytes (m′ .down)

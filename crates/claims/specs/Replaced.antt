@@ -8,7 +8,7 @@ use Rattle.chains.specs.Grammar.{Grammar}
 use Rattle.chains.specs.Tree.{Bush, nil, grow, size, flat, Kinded, Inst, Fitted}
 use Rattle.chains.specs.Replace.{Moves, Shifts, Interchange}
 use Rattle.numbering.specs.Promise.{Lent, TreeOf}
-use Rattle.numbering.specs.Places.{plausible-rank, feasible-rank, number-of}
+use Rattle.numbering.specs.Places.{plausible-rank, feasible-rank, down-entry-of, number-of}
 
 -- the sheets l and l′ are alike but for the subtree of one node, the one behind pre
 pub record Replacement (G : Grammar) (l l′ : List ℕ) : Type 0 where
@@ -39,6 +39,8 @@ pub record Unchanged {G : Grammar} {l l′ : List ℕ} (r : Replacement G l l′
   -- every node outside, the replaced subtree's root included, has the same plausible and the same feasible rank
   pub plausible : (i i′ : ℕ) → i < length l → Outside r i i′ → plausible-rank (n .nodes) i ≡ plausible-rank (n′ .nodes) i′
   pub feasible : (i i′ : ℕ) → i < length l → Outside r i i′ → feasible-rank (n .nodes) i ≡ feasible-rank (n′ .nodes) i′
+  -- every node outside but that root has the same down entry, its grouping over its production
+  pub entry : (i i′ : ℕ) → i < length l → (i ≡ length (r .pre) → ⊥) → Outside r i i′ → down-entry-of (n .nodes) i ≡ down-entry-of (n′ .nodes) i′
   -- any two settings outside, that node's own included, share a group in the one vehicle exactly when they do in the other
   pub shared : (x y x′ y′ : Inst) → Fitted G (t .tree) 0 x → Fitted G (t .tree) 0 y → OutsideSetting r x x′ → OutsideSetting r y y′
       → (number-of G l (n .groups) x ≡ number-of G l (n .groups) y) ↔ (number-of G l′ (n′ .groups) x′ ≡ number-of G l′ (n′ .groups) y′)
