@@ -10,12 +10,12 @@ use Rattle.chains.specs.Grammar.{Occ, Grammar, slots, width, Tied}
 use Rattle.chains.specs.Chain.{Eqv, done, fwd}
 use Rattle.chains.specs.Grouping.{Says}
 use Rattle.chains.specs.Labels.{joins}
-use Rattle.chains.specs.Gather.{Result, TiedTo, Remaining, Outside, UpTo, Towards}
+use Rattle.chains.specs.Gather.{Result, TiedTo, Remaining, Outside}
 use Rattle.chains.specs.State.{number, Shown, dropped, code-on, code-pairs}
-use Rattle.chains.proofs.Says.{says-unique, says-map}
-use Rattle.chains.proofs.Gather.{result-map, up-none, up-more, towards-none, towards-more}
+use Rattle.chains.proofs.Says.{says-unique}
+use Rattle.chains.proofs.Gather.{result-map}
 use Rattle.chains.proofs.State.{code-says}
-use Rattle.chains.proofs.Tying.{tied-shown, turned}
+use Rattle.chains.proofs.Tying.{turned}
 use Rattle.book.specs.Format.{prods, entry, grammar}
 use Rattle.bookcheck.specs.Accepted.{Accepted}
 use Rattle.tables.specs.State.{Present, State, spot, Whole, tidied, based}
@@ -85,53 +85,6 @@ module _ (G : Grammar) (p : ℕ) {s : List ℕ} (st : State s) (j : ℕ) (hj : j
       let a = turned G p j c hw s w (omega (arith, st .long)) t Codes Open x in
       let b = tidy-result G p (dropped-state st j (width G p j) c hj hw w) t Codes Open x in
       (λ r. b .1 (a .1 r), λ r. a .0 (b .0 r))
-
-  -- ---- upward
-  -- THEOREM: child j is tied with each of its codes and dropped; children 1 to j - 1 are left
-  pub up-turn : (Codes : ℕ → ℕ → Type 0) (x : ℕ) → 0 < j
-      → Result G p 0 Codes (UpTo j) (Shown s) x ↔ ((c : ℕ) × Codes j c × Result G p 0 Codes (UpTo (j - 1)) (Shown (stepped s j (width G p j) c)) x)
-  up-turn Codes x h =
-      let a = up-more G p Codes (Shown s) x j h in (
-        λ r. let (c, m, q) = a .0 r in (c, m, step-result c 0 Codes (UpTo (j - 1)) x .0 q),
-        λ (c, m, q). a .1 (c, m, step-result c 0 Codes (UpTo (j - 1)) x .1 q),
-      )
-
-  -- THEOREM: no slot is left: the result is the code of slot j, where every other is dropped
-  pub up-view : (Codes : ℕ → ℕ → Type 0) (x : ℕ) → j ≡ 0 → Result G p 0 Codes (UpTo 0) (Shown s) x ↔ (x ≡ code-on 0 (width G p 0) s)
-  up-view Codes x e =
-      let a = up-none G p Codes (Shown s) x in
-      let b = code-only (width G p 0) st 0 (omega arith) (rw e at hw) (rw e at w) x in
-      (λ r. b .0 (a .0 r), λ q. a .1 (b .1 q))
-
-  -- ---- downward to slot j
-  -- THEOREM: slot j is tied last, with each of its codes, and then seen
-  pub towards-view : (Codes : ℕ → ℕ → Type 0) (x : ℕ)
-      → Result G p j Codes (Towards j 0) (Shown s) x ↔ ((c : ℕ) × Codes j c × (x ≡ code-on j (width G p j) (joins s (code-pairs j (width G p j) c))))
-  towards-view Codes x =
-      let a = towards-none G p j Codes (Shown s) x in
-      (λ r. let (c, m, q) = a .0 r in (c, m, seen c .0 (tied c .1 q)), λ (c, m, q). a .1 (c, m, tied c .0 (seen c .1 q)))
-    where
-      seen : (c : ℕ) → Says (width G p j) x (λ a b. Eqv (Shown (joins s (code-pairs j (width G p j) c))) (j, a) (j, b)) ↔ (x ≡ code-on j (width G p j) (joins s (code-pairs j (width G p j) c)))
-      seen c =
-          let t = tie-means st j (width G p j) c hw w in
-          code-only (width G p j) (t .state) j hj hw (λ y h. t .present (spot j y) .1 (w y h)) x
-
-      tied : (c : ℕ) → Says (width G p j) x (λ a b. Eqv (Shown (joins s (code-pairs j (width G p j) c))) (j, a) (j, b)) ↔ Says (width G p j) x (λ a b. Eqv (TiedTo G p j c (Shown s)) (j, a) (j, b))
-      tied c =
-          let k = tied-shown G p j c hw s w in
-          (λ h. says-map h (λ a b ha hb. (k (j, a) (j, b) .0, k (j, a) (j, b) .1)), λ h. says-map h (λ a b ha hb. (k (j, a) (j, b) .1, k (j, a) (j, b) .0)))
-
--- THEOREM: any slot but t is tied with each of its codes and dropped; the slots below it, and t, are left
-pub towards-turn : (G : Grammar) (p t : ℕ) {s : List ℕ} → State s → (j : ℕ) → 0 < j → (j - 1 ≡ t → ⊥) → j - 1 ≤ max-kids → width G p (j - 1) ≤ max-settings
-    → Whole s (j - 1) (width G p (j - 1)) → (Codes : ℕ → ℕ → Type 0) (x : ℕ)
-    → Result G p t Codes (Towards t j) (Shown s) x
-    ↔ ((c : ℕ) × Codes (j - 1) c × Result G p t Codes (Towards t (j - 1)) (Shown (stepped s (j - 1) (width G p (j - 1)) c)) x)
-towards-turn G p t {s} st j h n hj hw w Codes x =
-    let a = towards-more G p t Codes (Shown s) x j h n in
-    let k = step-result G p st (j - 1) hj hw w in (
-      λ r. let (c, m, q) = a .0 r in (c, m, k c t Codes (Towards t (j - 1)) x .0 q),
-      λ (c, m, q). a .1 (c, m, k c t Codes (Towards t (j - 1)) x .1 q),
-    )
 
 -- ---- the base of a production
 module _ {b : List ℕ} (a : Accepted b) (p : ℕ) (l : p < prods b) where

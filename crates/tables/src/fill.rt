@@ -96,7 +96,8 @@ fn lay(
     if left == 0 {
         return put_entry(table, v, s, plausible, counts, feasible, tally, out, at);
     }
-    let slot = v.arity + 1 - left;
+    let last = v.arity;
+    let slot = last + 1 - left;
     let n = members_on(v, slot, counts);
     let mut to = at;
     let mut r = 0;

@@ -1,4 +1,5 @@
 -- Both tables are counted, held against their slices, and written.
+use native.Mathlib.Omega.{arith}
 use Rattle.tables.proofs.EntryCounts.{fine-small}
 use Rattle.tables.proofs.BuildSteps.{up-fits, down-fits, tabled-up, tabled-down, tabled}
 use Rattle.tables.proofs.making.write_tables.Statement.{statement}
@@ -8,7 +9,7 @@ total-up-requires : tie.Need-total-up-requires
 total-up-requires c κs = let o = c .before .before .before .before .before .before .before .pre in (o .0, fine-small (o .1 .plausible .fine))
 
 returns : tie.Need-returns
-returns c = tabled-up _ _ _ _ _ _ _ _ _ (c .before .total-up .ensures .0) (c .if1 .taken)
+returns c = tabled-up _ _ _ _ _ _ _ _ _ (c .before .total-up .ensures .0) (omega (arith, c .if1 .taken))
 
 total-down-requires : tie.Need-total-down-requires
 total-down-requires c κs = let o = c .before .before .before .before .before .before .before .before .before .pre in (o .0, fine-small (o .1 .plausible .fine), fine-small (o .1 .feasible .fine))
