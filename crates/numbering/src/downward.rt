@@ -77,7 +77,8 @@ fn read_node(
         (now (ends .entry)) i p (now (kept .entry)) (now (kept .exit)) r ⌝ }
 {
     let at = places[p];
-    let kin = kin_of(kept, ends, i, book::arity(book, at));
+    let kids = book::arity(book, at);
+    let kin = kin_of(kept, ends, i, kids);
     let ranks = kin.ranks;
     let own = feasible_of(kept, i);
     match ranks::read_down(down, start, kid_counts(book, places, p, counts), own, ranks) {

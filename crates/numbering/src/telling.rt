@@ -17,9 +17,10 @@ pub fn tell(n: usize, kept: &[u8; RANKS], entries: &[u64; NODES], nodes: &mut [u
 {
     let mut i = 0;
     while i < n {
-        nodes[3 * i] = plausible_told(kept, i);
-        nodes[3 * i + 1] = feasible_told(kept, i);
-        nodes[3 * i + 2] = entries[i];
+        let at = 3 * i;
+        nodes[at] = plausible_told(kept, i);
+        nodes[at + 1] = feasible_told(kept, i);
+        nodes[at + 2] = entries[i];
         i += 1;
     }
 }

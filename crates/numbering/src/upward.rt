@@ -41,7 +41,8 @@ pub fn read_upward(
         i -= 1;
         let p = sheet[i] as usize;
         let at = places[p];
-        let kin = kin_of(kept, ends, i, book::arity(book, at));
+        let kids = book::arity(book, at);
+        let kin = kin_of(kept, ends, i, kids);
         let ranks = kin.ranks;
         match ranks::read_up(up, starts[p], kid_counts(book, places, p, counts), ranks) {
             UpRead::Past => {

@@ -18,7 +18,7 @@ arity-requires c κs = tt
 kin-of-requires : tie.Need-kin-of-requires
 kin-of-requires c κs =
     let pre = c .before .before .before .before .before .before .before .pre in
-    (pre .6, pre .5, rw (opened (pre .0) (pre .1) refl (c .arity .ensures) .count) (pre .7))
+    (pre .6, pre .5, rw (opened (pre .0) (pre .1) refl (c .before .arity .ensures) .count) (pre .7))
 
 feasible-of-requires : tie.Need-feasible-of-requires
 feasible-of-requires c κs = (c .before .before .before .before .before .before .before .before .before .before .pre .7 .inside, c .before .before .before .before .before .before .before .before .before .before .pre .6)
@@ -45,21 +45,21 @@ hand-down-requires c κs =
 returns : tie.Need-returns
 returns c =
     let pre = c .before .before .before .before .before .before .before .before .before .before .before .before .before .before .before .before .before .before .before .pre in
-    let o = opened (pre .0) (pre .1) refl (c .before .before .before .before .before .before .before .before .before .before .before .before .arity .ensures) in
+    let o = opened (pre .0) (pre .1) refl (c .before .before .before .before .before .before .before .before .before .before .before .before .before .arity .ensures) in
     let asked = down-asked o (c .before .before .before .before .before .before .before .kid-counts .ensures) (c .before .before .before .before .before .before .before .before .before .before .before .kin-of .ensures) (pre .4) in
     read-good _ asked (c .before .before .before .before .before .before .read-down .ensures) (c .before .before .before .before .entry .given .1) (c .before .before .before .before .before .before .before .before .feasible-of .ensures) (c .before .hand-down .ensures) (c .if1 .taken)
 
 returns-2 : tie.Need-returns-2
 returns-2 c =
     let pre = c .before .before .before .before .before .before .before .before .before .before .before .before .before .before .before .pre in
-    let o = opened (pre .0) (pre .1) refl (c .before .before .before .before .before .before .before .before .arity .ensures) in
+    let o = opened (pre .0) (pre .1) refl (c .before .before .before .before .before .before .before .before .before .arity .ensures) in
     let asked = down-asked o (c .before .before .before .kid-counts .ensures) (c .before .before .before .before .before .before .before .kin-of .ensures) (pre .4) in
     read-past _ asked (c .before .before .before .before .feasible-of .ensures) (c .before .before .read-down .ensures) (c .enum-told .given .1)
 
 returns-3 : tie.Need-returns-3
 returns-3 c =
     let pre = c .before .before .before .before .before .before .before .before .before .before .before .before .before .before .before .before .before .before .before .pre in
-    let o = opened (pre .0) (pre .1) refl (c .before .before .before .before .before .before .before .before .before .before .before .before .arity .ensures) in
+    let o = opened (pre .0) (pre .1) refl (c .before .before .before .before .before .before .before .before .before .before .before .before .before .arity .ensures) in
     let asked = down-asked o (c .before .before .before .before .before .before .before .kid-counts .ensures) (c .before .before .before .before .before .before .before .before .before .before .before .kin-of .ensures) (pre .4) in
     read-high _ asked (c .before .before .before .before .before .before .read-down .ensures) (c .before .before .before .before .entry .given .1) (c .before .before .before .before .before .before .before .before .feasible-of .ensures) (c .before .hand-down .ensures) (c .if1 .left)
 

@@ -1,5 +1,6 @@
 -- Each exit has its own law.
 use mathlib.Core.Path.{refl}
+use native.Mathlib.Omega.{arith}
 use borrow.Author.Needs.{needs}
 use Rattle.numbering.proofs.Due.{sheeted}
 use Rattle.numbering.proofs.Filling.{filled}
@@ -33,7 +34,7 @@ tell-requires : tie.Need-tell-requires
 tell-requires c κs =
     let clear = c .before .before .before .before .before .before .before .before .before .before .before .before .before .before .before .before .before .before .before .before .before .pre .0 in
     let choice = c .before .before .before .before .before .choose .ensures in
-    (sheeted (clear .fits) .few, clear .nodes, choice .kept-long, choice .entries-long)
+    (omega (arith, sheeted (clear .fits) .few), omega (arith, clear .nodes), choice .kept-long, choice .entries-long)
 
 number-all-requires : tie.Need-number-all-requires
 number-all-requires c κs =

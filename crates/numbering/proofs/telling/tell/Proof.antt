@@ -18,14 +18,14 @@ abbrev μ-loop : tie.MeasureT-loop
 loop-holds : tie.Need-loop-holds Inv-loop μ-loop
 loop-holds c = telling-none _ _ _ _ _ (omega arith) (omega arith)
 
+mul-at : tie.Need-mul-at Inv-loop μ-loop
+mul-at c = omega arith
+
 plausible-told-requires : tie.Need-plausible-told-requires Inv-loop μ-loop
 plausible-told-requires c κs = (below (c .loop-test .taken) (c .before .before .before .pre .0), c .before .before .before .pre .2)
 
 mul-nodes : tie.Need-mul-nodes Inv-loop μ-loop
 mul-nodes c = omega arith
-
-mul-nodes-2 : tie.Need-mul-nodes-2 Inv-loop μ-loop
-mul-nodes-2 c = omega arith
 
 slice-write-nodes : tie.Need-slice-write-nodes Inv-loop μ-loop
 slice-write-nodes c = omega arith
@@ -33,32 +33,26 @@ slice-write-nodes c = omega arith
 feasible-told-requires : tie.Need-feasible-told-requires Inv-loop μ-loop
 feasible-told-requires c κs = (below (c .before .loop-test .taken) (c .before .before .before .before .pre .0), c .before .before .before .before .pre .2)
 
-mul-nodes-3 : tie.Need-mul-nodes-3 Inv-loop μ-loop
-mul-nodes-3 c = omega arith
-
 add-nodes : tie.Need-add-nodes Inv-loop μ-loop
 add-nodes c = omega arith
 
-mul-nodes-4 : tie.Need-mul-nodes-4 Inv-loop μ-loop
-mul-nodes-4 c = omega arith
+mul-nodes-2 : tie.Need-mul-nodes-2 Inv-loop μ-loop
+mul-nodes-2 c = omega arith
 
 slice-write-nodes-2 : tie.Need-slice-write-nodes-2 Inv-loop μ-loop
 slice-write-nodes-2 c = simp length-set (omega arith)
 
-mul-nodes-5 : tie.Need-mul-nodes-5 Inv-loop μ-loop
-mul-nodes-5 c = omega arith
+mul-nodes-3 : tie.Need-mul-nodes-3 Inv-loop μ-loop
+mul-nodes-3 c = omega arith
 
 element-copy-out-nodes : tie.Need-element-copy-out-nodes Inv-loop μ-loop
 element-copy-out-nodes c = omega arith
 
-mul-nodes-6 : tie.Need-mul-nodes-6 Inv-loop μ-loop
-mul-nodes-6 c = omega arith
-
 add-nodes-2 : tie.Need-add-nodes-2 Inv-loop μ-loop
 add-nodes-2 c = omega arith
 
-mul-nodes-7 : tie.Need-mul-nodes-7 Inv-loop μ-loop
-mul-nodes-7 c = omega arith
+mul-nodes-4 : tie.Need-mul-nodes-4 Inv-loop μ-loop
+mul-nodes-4 c = omega arith
 
 slice-write-nodes-3 : tie.Need-slice-write-nodes-3 Inv-loop μ-loop
 slice-write-nodes-3 c = simp length-set (omega arith)
@@ -85,20 +79,18 @@ tell-spec =
     Inv-loop
     μ-loop
     loop-holds
+    mul-at
     plausible-told-requires
     mul-nodes
-    mul-nodes-2
     slice-write-nodes
     feasible-told-requires
-    mul-nodes-3
     add-nodes
-    mul-nodes-4
+    mul-nodes-2
     slice-write-nodes-2
-    mul-nodes-5
+    mul-nodes-3
     element-copy-out-nodes
-    mul-nodes-6
     add-nodes-2
-    mul-nodes-7
+    mul-nodes-4
     slice-write-nodes-3
     add-i
     loop-less

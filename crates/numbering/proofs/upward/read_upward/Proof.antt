@@ -61,7 +61,7 @@ kin-of-requires c κs =
     let g = c .before .before .before .before .before .before .loop .inv in
     let some = c .before .before .before .before .before .loop-test .taken in
     let known = going-known g some (pre .1 .tree-of) in
-    (g .kept-long, g .ends-long, rw (opened (pre .0) known refl (c .arity .ensures) .count) (going-children g (pre .1 .tree-of) (pre .0 .accepted) some _ refl))
+    (g .kept-long, g .ends-long, rw (opened (pre .0) known refl (c .before .before .arity .ensures) .count) (going-children g (pre .1 .tree-of) (pre .0 .accepted) some _ refl))
 
 mul-read-up : tie.Need-mul-read-up Inv-loop μ-loop
 mul-read-up c =
@@ -93,8 +93,8 @@ read-up-requires c κs = tt
 enum-told : tie.Need-enum-told Inv-loop μ-loop
 enum-told c = search needs
 
-cast-t31 : tie.Need-cast-t31 Inv-loop μ-loop
-cast-t31 c = place-word (at-most (going-inside (c .before .before .before .before .before .before .before .before .before .before .before .before .loop .inv) (c .before .before .before .before .before .before .before .before .before .before .before .loop-test .taken)))
+cast-t32 : tie.Need-cast-t32 Inv-loop μ-loop
+cast-t32 c = place-word (at-most (going-inside (c .before .before .before .before .before .before .before .before .before .before .before .before .loop .inv) (c .before .before .before .before .before .before .before .before .before .before .before .loop-test .taken)))
 
 returns : tie.Need-returns Inv-loop μ-loop
 returns c =
@@ -102,7 +102,7 @@ returns c =
     let g = c .before .before .before .before .before .before .before .before .before .before .before .before .loop .inv in
     let some = c .before .before .before .before .before .before .before .before .before .before .before .loop-test .taken in
     let known = going-known g some (pre .1 .tree-of) in
-    let o = opened (pre .0) known refl (c .before .before .before .before .before .before .arity .ensures) in
+    let o = opened (pre .0) known refl (c .before .before .before .before .before .before .before .before .arity .ensures) in
     let asked = up-asked o (c .before .before .before .kid-counts .ensures) (c .before .before .before .before .before .kin-of .ensures) (c .before .before .before .before .before .before .before .before .before .before .before .before .before .up-starts .ensures .each _ known) in
     going-bad g (pre .1 .tree-of) (pre .0 .accepted) some refl (read-past asked (c .before .before .read-up .ensures) (c .enum-told .given .1)) (g .kept-long)
 
@@ -126,8 +126,8 @@ shared-slice-read-keep-plausible c =
 keep-plausible-requires : tie.Need-keep-plausible-requires Inv-loop μ-loop
 keep-plausible-requires c κs = (going-inside (c .before .before .before .before .before .before .before .before .before .before .before .before .before .before .before .before .loop .inv) (c .before .before .before .before .before .before .before .before .before .before .before .before .before .before .before .loop-test .taken), c .before .before .before .before .before .before .before .before .before .before .before .before .before .before .before .before .loop .inv .kept-long)
 
-cast-t37 : tie.Need-cast-t37 Inv-loop μ-loop
-cast-t37 c = place-word (at-most (going-inside (c .before .before .before .before .before .before .before .before .before .before .before .before .before .before .before .before .before .before .loop .inv) (c .before .before .before .before .before .before .before .before .before .before .before .before .before .before .before .before .before .loop-test .taken)))
+cast-t38 : tie.Need-cast-t38 Inv-loop μ-loop
+cast-t38 c = place-word (at-most (going-inside (c .before .before .before .before .before .before .before .before .before .before .before .before .before .before .before .before .before .before .loop .inv) (c .before .before .before .before .before .before .before .before .before .before .before .before .before .before .before .before .before .loop-test .taken)))
 
 returns-2 : tie.Need-returns-2 Inv-loop μ-loop
 returns-2 c =
@@ -135,7 +135,7 @@ returns-2 c =
     let g = c .before .before .before .before .before .before .before .before .before .before .before .before .before .before .before .before .before .before .loop .inv in
     let some = c .before .before .before .before .before .before .before .before .before .before .before .before .before .before .before .before .before .loop-test .taken in
     let known = going-known g some (pre .1 .tree-of) in
-    let o = opened (pre .0) known refl (c .before .before .before .before .before .before .before .before .before .before .before .before .arity .ensures) in
+    let o = opened (pre .0) known refl (c .before .before .before .before .before .before .before .before .before .before .before .before .before .before .arity .ensures) in
     let asked = up-asked o (c .before .before .before .before .before .before .before .before .before .kid-counts .ensures) (c .before .before .before .before .before .before .before .before .before .before .before .kin-of .ensures) (c .before .before .before .before .before .before .before .before .before .before .before .before .before .before .before .before .before .before .before .up-starts .ensures .each _ known) in
     let k = c .before .keep-plausible .ensures in
     let high = read-high asked (c .before .before .before .before .before .before .before .before .read-up .ensures) (c .before .before .before .before .before .before .rank .given .1) (left-is (pre .0) known refl (c .before .before .before .before .left .ensures)) (k .keeps .high (not-true _ (c .if1 .taken)) .0) in
@@ -147,7 +147,7 @@ cast-ends c =
     let g = c .before .before .before .before .before .before .before .before .before .before .before .before .before .before .before .before .before .before .before .loop .inv in
     let some = c .before .before .before .before .before .before .before .before .before .before .before .before .before .before .before .before .before .before .loop-test .taken in
     let known = going-known g some (pre .1 .tree-of) in
-    let o = opened (pre .0) known refl (c .before .before .before .before .before .before .before .before .before .before .before .before .before .arity .ensures) in
+    let o = opened (pre .0) known refl (c .before .before .before .before .before .before .before .before .before .before .before .before .before .before .before .arity .ensures) in
     let asked = up-asked o (c .before .before .before .before .before .before .before .before .before .before .kid-counts .ensures) (c .before .before .before .before .before .before .before .before .before .before .before .before .kin-of .ensures) (c .before .before .before .before .before .before .before .before .before .before .before .before .before .before .before .before .before .before .before .before .up-starts .ensures .each _ known) in
     place-word (going-end g (pre .1 .tree-of) (pre .0 .accepted) some refl (read-good asked (c .before .before .before .before .before .before .before .before .before .read-up .ensures) (c .before .before .before .before .before .before .before .rank .given .1) (left-is (pre .0) known refl (c .before .before .before .before .before .left .ensures)) (c .before .before .keep-plausible .ensures .keeps .low (not-false _ (c .before .if1 .left)) .0)))
 
@@ -166,7 +166,7 @@ loop-again c =
     let g = c .before .before .before .before .before .before .before .before .before .before .before .before .before .before .before .before .before .before .before .loop .inv in
     let some = c .before .before .before .before .before .before .before .before .before .before .before .before .before .before .before .before .before .before .loop-test .taken in
     let known = going-known g some (pre .1 .tree-of) in
-    let o = opened (pre .0) known refl (c .before .before .before .before .before .before .before .before .before .before .before .before .before .arity .ensures) in
+    let o = opened (pre .0) known refl (c .before .before .before .before .before .before .before .before .before .before .before .before .before .before .before .arity .ensures) in
     let asked = up-asked o (c .before .before .before .before .before .before .before .before .before .before .kid-counts .ensures) (c .before .before .before .before .before .before .before .before .before .before .before .before .kin-of .ensures) (c .before .before .before .before .before .before .before .before .before .before .before .before .before .before .before .before .before .before .before .before .up-starts .ensures .each _ known) in
     let stays = not-false _ (c .before .if1 .left) in
     let k = c .before .before .keep-plausible .ensures in
@@ -196,14 +196,14 @@ read-upward-spec =
     kid-counts-requires
     read-up-requires
     enum-told
-    cast-t31
+    cast-t32
     returns
     enum-known-rank
     left-requires
     cast-left
     shared-slice-read-keep-plausible
     keep-plausible-requires
-    cast-t37
+    cast-t38
     returns-2
     cast-ends
     mul-ends
