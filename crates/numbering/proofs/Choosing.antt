@@ -1,9 +1,9 @@
 -- All reads in their order: upward, the root, downward.
 use mathlib.Core.Path.{_≡_, refl, sym, ap, subst, _∙_}
-use mathlib.Core.Logic.{_⊎_, inl, inr}
+use mathlib.Core.Logic.{inl}
 use mathlib.Core.Bool.{Bool, true, false}
 use mathlib.Core.List.{List, [], _∷_}
-use Prim.Native.Nat.{ℕ, zero, suc, _+_, _-_, _≤_, _<_}
+use Prim.Native.Nat.{ℕ, suc, _+_, _-_, _≤_, _<_}
 use native.Mathlib.Omega.{arith}
 use lib.ListN.{length, getD}
 use lib.Seq.{getD-set-same}
@@ -14,10 +14,9 @@ use Rattle.chains.proofs.Nodes.{sub-in}
 use Rattle.book.specs.Format.{grammar, kinds, start}
 use Rattle.bookcheck.specs.Accepted.{Accepted}
 use Rattle.numbering.specs.Walk.{Tables, tables, ranks, started}
-use Rattle.numbering.specs.Promise.{TreeOf, BadUp, BadRoot, BadDown}
-use Rattle.numbering.specs.Visits.{visit}
+use Rattle.numbering.specs.Promise.{TreeOf, BadRoot}
 use Rattle.numbering.specs.KeptRanks.{plausible-ranks, feasible-ranks, KeptFeasible}
-use Rattle.numbering.specs.Parts.{Sheeted, Ended, Ranked, NoBadUp, UpIs, UpReads, RightRank, NoBadDown, DownIs, DownReads, Fails, upward, root, downward, Chosen, ChoiceIs, Choice}
+use Rattle.numbering.specs.Parts.{Ended, Ranked, NoBadUp, UpIs, UpReads, RightRank, NoBadDown, DownIs, DownReads, Fails, upward, root, downward, ChoiceIs, Choice}
 use Rattle.numbering.specs.declared.upward.Reads.{Reads}
 use Rattle.numbering.specs.declared.upward.Reads.the-variants.{All, Bad}
 use Rattle.numbering.proofs.Keeping.{feasible-long}
@@ -36,10 +35,6 @@ started-rank G T (grow p cs rest) plausible k r = sym (r 0 p cs (inl (refl, refl
 module _ (G : Grammar) (T : Tables) (f : Bush) where
   inside : (i q : ℕ) (ds : Bush) → Sub f 0 i q ds → i < size f
   inside i q ds s = omega (arith, sub-in f 0 i q ds s .0 .1)
-
-  -- no read before the turn t fails
-  Earlier : ℕ → Type 0
-  Earlier t = (p s : ℕ) → s < t → Fails G T f (size f) p s → ⊥
 
   before-upward : (i : ℕ) → i < size f → NoBadUp G T f (suc i) → (p s : ℕ) → s < size f - i → Fails G T f (size f) p s → ⊥
   before-upward i h none p s k x = go x k

@@ -1,15 +1,15 @@
 -- The loop that gives each child its feasible rank.
-use mathlib.Core.Path.{_≡_, refl, sym, ap, subst, _∙_}
+use mathlib.Core.Path.{_≡_, sym, ap, subst, _∙_}
 use mathlib.Core.Bool.{Bool, true, false}
 use mathlib.Core.List.{List}
-use Prim.Native.Nat.{ℕ, suc, _+_, _≤_, _<_}
+use Prim.Native.Nat.{ℕ, _+_, _≤_, _<_}
 use native.Mathlib.Decide.{ℕ-discrete}
 use native.Mathlib.Numerals.{add-one}
 use native.Mathlib.Omega.{arith}
 use lib.ListN.{length, getD, set}
 use lib.Seq.{getD-set-same, getD-set-other}
 use Rattle.chains.specs.Limits.{max-nodes}
-use Rattle.book.specs.Format.{grammar, kinds}
+use Rattle.book.specs.Format.{grammar}
 use Rattle.book.specs.Reading.{kid-at}
 use Rattle.ranks.specs.Reads.{child-rank-at}
 use Rattle.numbering.specs.KeptRanks.{room, feasible-ranks, KeptFeasible, OnlyFeasible}
