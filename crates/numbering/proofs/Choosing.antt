@@ -100,21 +100,21 @@ module _ {b l c u kept ends : List ℕ} (d w : List ℕ) {r : Reads} (up : UpRea
         entries-long = le;
         case = λ t.
             let T = tables c d u w in
-            let high = root-kept .keeps .high ef .0 in
+            let high = root-kept .own .high ef .0 in
             let bad : BadRoot (grammar b) T (t .tree) = omega (arith, ap (λ k. getD d k 0) ek, root-rank t) in
             (size (t .tree) + 1, root bad, before-root (grammar b) T (t .tree) (good-up t .0));
       }
 
       module _ (et : k ≡ true) {kept″ entries : List ℕ} {o : Reads} (down : DownReads b l c d w ends kept′ kept″ entries o) where
         fine : (t : TreeOf (grammar b) l) → BadRoot (grammar b) (tables c d u w) (t .tree) → ⊥
-        fine t h = omega (arith, root-kept .keeps .low et .0, ap (λ k. getD d k 0) ek, root-rank t)
+        fine t h = omega (arith, root-kept .own .low et .0, ap (λ k. getD d k 0) ek, root-rank t)
 
         down-is : (t : TreeOf (grammar b) l) → DownIs (grammar b) (tables c d u w) (t .tree) (feasible-ranks kept″) entries o
         down-is t =
             let T = tables c d u w in
             let (none, ranked, ended) = good-up t in
             let first : RightRank (grammar b) T (t .tree) (feasible-ranks kept′) 0
-            = ap (λ (s : List ℕ). getD s 0 0) (root-kept .keeps .low et .1)
+            = ap (λ (s : List ℕ). getD s 0 0) (root-kept .own .low et .1)
             ∙ getD-set-same (feasible-ranks kept) 0 rank 0 (omega (arith, feasible-long kept (up .kept-long)))
             ∙ er ∙ sym (root-rank t) ∙ sym (root-visited (grammar b) T (t .tree) (t .kinded) .0) in
             down .case t u ended (subst (λ (s : List ℕ). Ranked (grammar b) T (t .tree) 0 0 s) (sym (root-kept .others)) ranked) first

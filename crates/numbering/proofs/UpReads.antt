@@ -182,7 +182,7 @@ module _ {b l c u kept ends : List ℕ} {i : ℕ} (g : UpGoing b l c u kept ends
           still t d w m q ds s k (no z) = g .read-so-far t d w .0 m q ds s (omega arith)
 
           new : plausible-ranks kept′ ≡ set (plausible-ranks kept) (i - 1) rank
-          new = k .keeps .low eo .1
+          new = k .own .low eo .1
 
           ranked : (t : TreeOf (grammar b) l) (d w : List ℕ) (m q : ℕ) (ds : Bush) → Sub (t .tree) 0 m q ds → i - 1 ≤ m → Dec (m ≡ i - 1)
               → getD (plausible-ranks kept′) m 0 ≡ rank-of (grammar b) (tables c d u w) q ds
