@@ -1,9 +1,9 @@
 -- All reads in their order: upward, the root, downward.
 use mathlib.Core.Path.{_≡_, refl, sym, ap, subst, _∙_}
-use mathlib.Core.Logic.{_⊎_, inl, inr}
+use mathlib.Core.Logic.{inl}
 use mathlib.Core.Bool.{Bool, true, false}
 use mathlib.Core.List.{List, [], _∷_}
-use Prim.Native.Nat.{ℕ, zero, suc, _+_, _-_, _≤_, _<_}
+use Prim.Native.Nat.{ℕ, suc, _+_, _-_, _≤_, _<_}
 use native.Mathlib.Omega.{arith}
 use lib.ListN.{length, getD}
 use lib.Seq.{getD-set-same}
@@ -14,10 +14,9 @@ use Rattle.chains.proofs.Nodes.{sub-in}
 use Rattle.book.specs.Format.{grammar, kinds, start}
 use Rattle.bookcheck.specs.Accepted.{Accepted}
 use Rattle.numbering.specs.Walk.{Tables, tables, ranks, started}
-use Rattle.numbering.specs.Promise.{TreeOf, BadUp, BadRoot, BadDown}
-use Rattle.numbering.specs.Visits.{visit}
+use Rattle.numbering.specs.Promise.{TreeOf, BadRoot}
 use Rattle.numbering.specs.KeptRanks.{plausible-ranks, feasible-ranks, KeptFeasible}
-use Rattle.numbering.specs.Parts.{Sheeted, Ended, Ranked, NoBadUp, UpIs, UpReads, RightRank, NoBadDown, DownIs, DownReads, Fails, upward, root, downward, Chosen, ChoiceIs, Choice}
+use Rattle.numbering.specs.Parts.{Ended, Ranked, NoBadUp, UpIs, UpReads, RightRank, NoBadDown, DownIs, DownReads, Fails, upward, root, downward, ChoiceIs, Choice}
 use Rattle.numbering.specs.declared.upward.Reads.{Reads}
 use Rattle.numbering.specs.declared.upward.Reads.the-variants.{All, Bad}
 use Rattle.numbering.proofs.Keeping.{feasible-long}
@@ -36,10 +35,6 @@ started-rank G T (grow p cs rest) plausible k r = sym (r 0 p cs (inl (refl, refl
 module _ (G : Grammar) (T : Tables) (f : Bush) where
   inside : (i q : ℕ) (ds : Bush) → Sub f 0 i q ds → i < size f
   inside i q ds s = omega (arith, sub-in f 0 i q ds s .0 .1)
-
-  -- no read before the turn t fails
-  Earlier : ℕ → Type 0
-  Earlier t = (p s : ℕ) → s < t → Fails G T f (size f) p s → ⊥
 
   before-upward : (i : ℕ) → i < size f → NoBadUp G T f (suc i) → (p s : ℕ) → s < size f - i → Fails G T f (size f) p s → ⊥
   before-upward i h none p s k x = go x k
@@ -105,21 +100,21 @@ module _ {b l c u kept ends : List ℕ} (d w : List ℕ) {r : Reads} (up : UpRea
         entries-long = le;
         case = λ t.
             let T = tables c d u w in
-            let high = root-kept .keeps .high ef .0 in
+            let high = root-kept .own .high ef .0 in
             let bad : BadRoot (grammar b) T (t .tree) = omega (arith, ap (λ k. getD d k 0) ek, root-rank t) in
             (size (t .tree) + 1, root bad, before-root (grammar b) T (t .tree) (good-up t .0));
       }
 
       module _ (et : k ≡ true) {kept″ entries : List ℕ} {o : Reads} (down : DownReads b l c d w ends kept′ kept″ entries o) where
         fine : (t : TreeOf (grammar b) l) → BadRoot (grammar b) (tables c d u w) (t .tree) → ⊥
-        fine t h = omega (arith, root-kept .keeps .low et .0, ap (λ k. getD d k 0) ek, root-rank t)
+        fine t h = omega (arith, root-kept .own .low et .0, ap (λ k. getD d k 0) ek, root-rank t)
 
         down-is : (t : TreeOf (grammar b) l) → DownIs (grammar b) (tables c d u w) (t .tree) (feasible-ranks kept″) entries o
         down-is t =
             let T = tables c d u w in
             let (none, ranked, ended) = good-up t in
             let first : RightRank (grammar b) T (t .tree) (feasible-ranks kept′) 0
-            = ap (λ (s : List ℕ). getD s 0 0) (root-kept .keeps .low et .1)
+            = ap (λ (s : List ℕ). getD s 0 0) (root-kept .own .low et .1)
             ∙ getD-set-same (feasible-ranks kept) 0 rank 0 (omega (arith, feasible-long kept (up .kept-long)))
             ∙ er ∙ sym (root-rank t) ∙ sym (root-visited (grammar b) T (t .tree) (t .kinded) .0) in
             down .case t u ended (subst (λ (s : List ℕ). Ranked (grammar b) T (t .tree) 0 0 s) (sym (root-kept .others)) ranked) first

@@ -1,5 +1,5 @@
 -- From what is found to what is due by the call's table.
-use mathlib.Core.Path.{_≡_, refl, sym, subst}
+use mathlib.Core.Path.{_≡_, sym, subst}
 use mathlib.Core.Logic.{_⊎_, inl, inr}
 use mathlib.Core.List.{List, [], _∷_}
 use Prim.Native.Nat.{ℕ, _≤_, _<_}
@@ -7,7 +7,7 @@ use native.Mathlib.Decide.{decLe}
 use native.Mathlib.Omega.{arith}
 use lib.ListN.{length}
 use Rattle.lists.specs.Refusals.{accepted, refused, Sooner}
-use Rattle.chains.specs.Tree.{Bush, size}
+use Rattle.chains.specs.Tree.{size}
 use Rattle.book.specs.Format.{grammar}
 use Rattle.sheet.specs.Reading.{all-settings}
 use Rattle.sheet.specs.Trees.{Fits}

@@ -1,20 +1,19 @@
 -- The loop that numbers the settings of a node's children, one child after another.
-use mathlib.Core.Path.{_≡_, refl, sym, ap, ap₂, subst, _∙_}
+use mathlib.Core.Path.{_≡_, refl, sym, ap, subst, _∙_}
 use mathlib.Core.List.{List, [], _∷_, _++_, append-assoc, append-nil}
-use Prim.Native.Nat.{ℕ, zero, suc, _+_, _*_, _≤_, _<_}
+use Prim.Native.Nat.{ℕ, suc, _+_, _*_, _≤_, _<_}
 use native.Mathlib.Nat.{add-zero}
 use native.Mathlib.Decide.{decLt, ℕ-discrete}
 use native.Mathlib.Numerals.{add-one}
 use native.Mathlib.Omega.{arith}
-use lib.ListN.{length, getD, take, drop, length-append, take-append-drop}
+use lib.ListN.{length, getD, take, drop, take-append-drop}
 use lib.Seq.{take-all, take-suc, take-at, drop-at, drop-cons, length-take-le}
 use Rattle.lists.specs.Part.{part, place}
 use Rattle.lists.proofs.Parts.{place-this, place-before, place-after}
-use Rattle.chains.specs.Limits.{max-kids, max-settings, max-nodes}
+use Rattle.chains.specs.Limits.{max-settings, max-nodes}
 use Rattle.chains.specs.Grammar.{Grammar}
-use Rattle.book.specs.Format.{grammar, prods, kinds}
+use Rattle.book.specs.Format.{grammar}
 use Rattle.book.specs.Reading.{kid-at, settings-of}
-use Rattle.bookcheck.specs.Accepted.{Accepted}
 use Rattle.bookcheck.proofs.Accepted.{settings-read}
 use Rattle.sheet.specs.Reading.{all-settings}
 use Rattle.numbering.specs.Walk.{Tables, tables, Held, held, numbered, unused, slot-labels, kid-labels}

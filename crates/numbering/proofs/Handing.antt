@@ -1,15 +1,15 @@
 -- The loop that gives each child its feasible rank.
-use mathlib.Core.Path.{_≡_, refl, sym, ap, subst, _∙_}
+use mathlib.Core.Path.{_≡_, sym, ap, subst, _∙_}
 use mathlib.Core.Bool.{Bool, true, false}
 use mathlib.Core.List.{List}
-use Prim.Native.Nat.{ℕ, suc, _+_, _≤_, _<_}
+use Prim.Native.Nat.{ℕ, _+_, _≤_, _<_}
 use native.Mathlib.Decide.{ℕ-discrete}
 use native.Mathlib.Numerals.{add-one}
 use native.Mathlib.Omega.{arith}
 use lib.ListN.{length, getD, set}
 use lib.Seq.{getD-set-same, getD-set-other}
 use Rattle.chains.specs.Limits.{max-nodes}
-use Rattle.book.specs.Format.{grammar, kinds}
+use Rattle.book.specs.Format.{grammar}
 use Rattle.book.specs.Reading.{kid-at}
 use Rattle.ranks.specs.Reads.{child-rank-at}
 use Rattle.numbering.specs.KeptRanks.{room, feasible-ranks, KeptFeasible, OnlyFeasible}
@@ -72,14 +72,14 @@ module _ {b d w : List ℕ} {e p at kids : ℕ} {ends : List ℕ} {i : ℕ} {kep
       }
         where
           new : feasible-ranks kept′ ≡ set (feasible-ranks kept) child r
-          new = k .keeps .low eo .1
+          new = k .own .low eo .1
 
           child-has : getD (feasible-ranks kept′) child 0 ≡ r
           child-has = ap (λ (t : List ℕ). getD t child 0) new ∙ getD-set-same (feasible-ranks kept) child r 0 (omega (arith, handing-inside more, feasible-long kept (h .long)))
 
           lower : (m : ℕ) → m < j + 1 → Dec (m ≡ j) → child-rank-at w e m < getD d (getD (grammar b .kids p) m 0) 0
           lower m l (no q) = h .low m (omega arith)
-          lower m l (yes q) = rw (q, ← kind-is, ← er) (k .keeps .low eo .0)
+          lower m l (yes q) = rw (q, ← kind-is, ← er) (k .own .low eo .0)
 
           kept-on : (F : ℕ → ℕ) → ((m : ℕ) → m < length (grammar b .kids p) → F (child-at ends i m) ≡ child-rank-at w e m)
               → (m : ℕ) → getD (feasible-ranks kept) m 0 ≡ F m → Dec (m ≡ child) → getD (feasible-ranks kept′) m 0 ≡ F m
@@ -94,7 +94,7 @@ module _ {b d w : List ℕ} {e p at kids : ℕ} {ends : List ℕ} {i : ℕ} {kep
               ap (λ t. getD (feasible-ranks kept′) t 0) st ∙ child-has ∙ er ∙ sym (f j here) ∙ ap F (ap (child-at ends i) (sym q))
 
       pub handing-bad : o ≡ false → HandedDown b d w e p ends i kept₀ kept′ false
-      handing-bad eo = record { only = only-more (h .only) (only-kept k); case = (j, here, rw (← kind-is, ← er) (k .keeps .high eo .0)) }
+      handing-bad eo = record { only = only-more (h .only) (only-kept k); case = (j, here, rw (← kind-is, ← er) (k .own .high eo .0)) }
 
   pub handing-done : kids ≤ j → HandedDown b d w e p ends i kept₀ kept true
   handing-done l = record {

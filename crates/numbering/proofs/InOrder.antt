@@ -1,7 +1,7 @@
 -- The walk over a tree, by anyone's tables, gives the numbers of the group slice by the rule: labels that agree, in walk order.
 use mathlib.Core.Path.{_≡_, refl, sym, ap, ap₂, _∙_, subst, subst₂}
-use mathlib.Core.Logic.{_⊎_, inl, inr}
-use mathlib.Core.List.{List, [], _∷_, _++_, map, map-map, map-append, append-assoc, append-nil, List·Memᴰ·not-nil}
+use mathlib.Core.Logic.{inl, inr}
+use mathlib.Core.List.{List, [], _∷_, _++_, map, map-map, map-append, append-assoc, append-nil}
 use Prim.Native.Nat.{ℕ, zero, suc, _+_, _*_, _≤_, _<_}
 use native.Mathlib.Omega.{arith}
 use lib.ListN.{length, getD, take, drop, length-append, length-map, length-drop, take-append-drop}
@@ -14,10 +14,10 @@ use Rattle.chains.specs.Numbering as rule
 use Rattle.chains.proofs.Nodes.{sub-one, flat-length}
 use Rattle.sheet.specs.Reading.{all-settings}
 use Rattle.sheet.proofs.Reading.{settings-next}
-use Rattle.numbering.specs.Walk.{Tables, Held, entry-of, given, places, numbered, unused, slot-labels, kid-labels, held, own-held, Numbered, walk, root-entry, root-labels, started, group-numbers, ranks}
-use Rattle.numbering.specs.Places.{down-entry-of, place-of, number-of}
+use Rattle.numbering.specs.Walk.{Tables, Held, entry-of, given, places, numbered, unused, kid-labels, held, own-held, Numbered, walk, root-entry, root-labels, started, group-numbers}
+use Rattle.numbering.specs.Places.{down-entry-of, number-of}
 use Rattle.numbering.proofs.Rule.{Keeps, numbered-rule, held-map, keeps-map}
-use Rattle.numbering.proofs.Told.{Parts, parts}
+use Rattle.numbering.proofs.Told.{parts}
 use Rattle.numbering.proofs.Listed.{root-settings, in-slot-long, kid-settings, own-settings, label-of, own-labels, all-labels}
 
 pub numbered-long : (hs : List Held) (n : ℕ) (xs : List ℕ) → length (numbered hs n xs) ≡ length xs

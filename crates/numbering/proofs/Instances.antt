@@ -1,14 +1,14 @@
 -- The visit of a node: its own settings hold their labels, then its children's are numbered.
-use mathlib.Core.Path.{_≡_, refl, sym, ap, subst, _∙_}
-use mathlib.Core.List.{List, [], _∷_, _++_}
-use Prim.Native.Nat.{ℕ, suc, _+_, _≤_, _<_}
+use mathlib.Core.Path.{_≡_, refl, subst, _∙_}
+use mathlib.Core.List.{List, []}
+use Prim.Native.Nat.{ℕ, _+_, _≤_}
 use native.Mathlib.Omega.{arith}
-use lib.ListN.{length, getD, take, drop}
+use lib.ListN.{length, getD, take}
 use Rattle.lists.specs.Part.{part}
 use Rattle.chains.specs.Grammar.{Grammar}
 use Rattle.book.specs.Format.{grammar}
 use Rattle.sheet.specs.Reading.{all-settings}
-use Rattle.numbering.specs.Walk.{tables, Held, held, numbered, unused, slot-labels, kid-labels, own-held}
+use Rattle.numbering.specs.Walk.{tables, held, slot-labels, own-held}
 use Rattle.numbering.specs.Giving.{labels-known, Holding, Held-own, Written, Family, Ready, Instance}
 use Rattle.numbering.proofs.Holders.{holding-none}
 use Rattle.numbering.proofs.Trees.{settings-inside}

@@ -2,17 +2,16 @@
 use mathlib.Core.Path.{_≡_, refl, sym, ap, ap₂, subst, _∙_}
 use mathlib.Core.List.{List, [], _∷_, _++_}
 use Prim.Native.Nat.{ℕ, zero, suc, _+_, _*_, _≤_, _<_}
-use native.Mathlib.Nat.{add-zero}
 use native.Mathlib.Omega.{arith}
-use lib.ListN.{length, getD, take, drop, length-append}
-use lib.Seq.{take-all, drop-cons}
+use lib.ListN.{length, getD, take, drop}
+use lib.Seq.{take-all}
 use Rattle.lists.specs.Part.{part}
 use Rattle.lists.proofs.Parts.{getD-part}
 use Rattle.chains.specs.Grammar.{Grammar, width}
 use Rattle.chains.specs.Tree.{Bush, nil, grow, size, flat, Kinded, Root, Sub}
 use Rattle.chains.proofs.WellKinded.{sub-kinded}
 use Rattle.sheet.specs.Reading.{all-settings}
-use Rattle.numbering.specs.Walk.{Tables, ranks, given, numbered, unused, slot-labels, root-entry, root-labels, started, group-numbers, walk, places}
+use Rattle.numbering.specs.Walk.{Tables, given, numbered, unused, slot-labels, root-entry, root-labels, started, group-numbers, walk, places}
 use Rattle.numbering.specs.Promise.{entry-at}
 use Rattle.numbering.specs.Visits.{Visit, nowhere, rank-of, entry-in, held-in, labels-in, handed, after, arrival, visits, journey, visit}
 use Rattle.numbering.proofs.Labelled.{numbered-long, unused-bounds, slot-labels-long, kid-labels-long}

@@ -1,9 +1,9 @@
 -- The occurrences of a production in order, as the settings that they are and as the labels that an entry has for them.
 use mathlib.Core.Path.{_≡_, refl, sym, ap, ap₂, _∙_}
 use mathlib.Core.List.{List, [], _∷_, _++_, map, map-append}
-use Prim.Native.Nat.{ℕ, zero, suc, _+_, _<_}
+use Prim.Native.Nat.{ℕ, zero, suc, _+_}
 use native.Mathlib.Omega.{arith}
-use lib.ListN.{length, getD, length-append}
+use lib.ListN.{length, getD}
 use Rattle.chains.specs.Grammar.{Occ, Grammar, width}
 use Rattle.chains.specs.Tree.{Bush, nil, grow, size, Kinded, Root, Inst, roots}
 use Rattle.chains.specs.Numbering.{in-slot, occurrences, setting}

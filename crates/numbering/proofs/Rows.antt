@@ -1,11 +1,11 @@
 -- The loop that tells of each node in three places.
-use mathlib.Core.Path.{_≡_, refl, sym, ap, ap₂, subst, _∙_}
+use mathlib.Core.Path.{_≡_, refl, sym, ap, subst, _∙_}
 use mathlib.Core.List.{List, [], _∷_, _++_, append-assoc}
 use Prim.Native.Nat.{ℕ, zero, suc, _+_, _*_, _≤_, _<_}
 use native.Mathlib.Nat.{add-zero}
 use native.Mathlib.Numerals.{add-one}
 use native.Mathlib.Omega.{arith}
-use lib.ListN.{length, getD, drop, set, length-append, length-drop}
+use lib.ListN.{length, getD, drop, set}
 use lib.Seq.{drop-cons}
 use Rattle.chains.specs.Limits.{max-nodes}
 use Rattle.numbering.specs.Giving.{rows}

@@ -6,7 +6,7 @@ use Prim.Native.Nat.{ℕ, zero, suc, _+_, _*_, _≤_, _<_}
 use native.Mathlib.Nat.{add-zero}
 use native.Mathlib.Numerals.{add-one}
 use native.Mathlib.Omega.{arith}
-use lib.ListN.{length, getD, take, drop, set, length-append, length-drop, length-set, take-append-drop}
+use lib.ListN.{length, getD, take, drop, set, length-drop, length-set, take-append-drop}
 use lib.Seq.{take-suc, getD-take, getD-drop, drop-set-lt}
 use Rattle.lists.specs.Pick.{pick}
 use Rattle.lists.specs.Part.{part, place}
@@ -16,17 +16,17 @@ use Rattle.chains.specs.Limits.{max-kids, max-settings}
 use Rattle.ranks.specs.Entries.{labels, entry-bytes, none}
 use Rattle.ranks.specs.Reads.{label-at}
 use Rattle.numbering.specs.Walk.{Tables, tables, label-in, Held, holder, holds, held, numbered, unused, slot-labels}
-use Rattle.numbering.specs.Giving.{labels-known, Holding, Held-one, Held-own, Slot}
-use Rattle.numbering.proofs.Labelled.{numbered-long, holding, numbered-append, unused-append, unused-bounds, slot-labels-long}
+use Rattle.numbering.specs.Giving.{Holding, Held-one, Held-own, Slot}
+use Rattle.numbering.proofs.Labelled.{numbered-long, holding, numbered-append, unused-append, slot-labels-long}
 use Rattle.numbering.proofs.Holders.{holding-taken}
 
 -- a label is read where the walk has it
-pub label-read : (T : Tables) (e s a : ℕ) → s ≤ max-kids → a < max-settings → label-at (T .down) e (s * 8 + a) ≡ label-in T e s a
+pub label-read : (T : Tables) (e s a : ℕ) → s ≤ max-kids → a < max-settings → label-at (T .down) e (s * max-settings + a) ≡ label-in T e s a
 label-read T e s a h l =
-    let o : s * 8 + a < labels = omega arith in
-    getD-take labels (part (e * entry-bytes) entry-bytes (T .down)) (s * 8 + a) none o
-    ∙ getD-take entry-bytes (drop (e * entry-bytes) (T .down)) (s * 8 + a) none (omega arith)
-    ∙ getD-drop (e * entry-bytes) (T .down) (s * 8 + a) none
+    let o : s * max-settings + a < labels = omega arith in
+    getD-take labels (part (e * entry-bytes) entry-bytes (T .down)) (s * max-settings + a) none o
+    ∙ getD-take entry-bytes (drop (e * entry-bytes) (T .down)) (s * max-settings + a) none (omega arith)
+    ∙ getD-drop (e * entry-bytes) (T .down) (s * max-settings + a) none
 
 -- one setting more
 slot-labels-more : (T : Tables) (e s a n : ℕ) → slot-labels T e s a (suc n) ≡ slot-labels T e s a n ++ label-in T e s (a + n) ∷ []
@@ -76,7 +76,7 @@ own-turn {w} {e} {a} {at} {s} {g} {stamps₀} {numbers₀} {stamps} {numbers} {s
         let T = tables c d u w in
         let xs = slot-labels T e 0 0 a in
         let z : 0 + a ≡ a = omega arith in
-        let m : 0 * 8 + a ≡ a = omega arith in
+        let m : 0 * max-settings + a ≡ a = omega arith in
         let y : label-in T e 0 (0 + a) ≡ x = ap (label-in T e 0) z ∙ sym (label-read T e 0 a (omega arith) l) ∙ ap (label-at w e) m ∙ sym ex in
         let ls : slot-labels T e 0 0 (suc a) ≡ xs ++ x ∷ [] = slot-labels-more T e 0 0 a ∙ ap (λ t. xs ++ t ∷ []) y in
         let hd : held (slot-labels T e 0 0 (suc a)) (part at (suc a) g) ≡ held xs (part at a g) ++ (x, n) ∷ []
@@ -102,7 +102,7 @@ slot-none w e slot at s next stamps numbers g = record {
 
 pub slot-turn : {w : List ℕ} {e slot a at s first : ℕ} {stamps₀ numbers₀ g₀ stamps numbers g stamps′ numbers′ : List ℕ} {x next r v : ℕ}
     → Slot w e slot a at s first stamps₀ numbers₀ g₀ stamps numbers g next → slot ≤ max-kids → a < max-settings → at + a < length g₀
-    → x ≡ label-at w e (slot * 8 + a) → Held-one s x next stamps numbers stamps′ numbers′ r → r ≤ 1 → v ≡ getD numbers′ x 0
+    → x ≡ label-at w e (slot * max-settings + a) → Held-one s x next stamps numbers stamps′ numbers′ r → r ≤ 1 → v ≡ getD numbers′ x 0
     → Slot w e slot (a + 1) at s first stamps₀ numbers₀ g₀ stamps′ numbers′ (set g (at + a) v) (next + r)
 unfolding numbered unused
 slot-turn {w} {e} {slot} {a} {at} {s} {first} {stamps₀} {numbers₀} {g₀} {stamps} {numbers} {g} {stamps′} {numbers′} {x} {next} {r} {v} o k l m ex h lr ev = record {

@@ -1,13 +1,13 @@
 -- The sheet of a tree: its bytes are the nodes' productions, and each node's settings have their own places among all.
-use mathlib.Core.Path.{_≡_, refl, sym, ap, subst, _∙_}
-use mathlib.Core.List.{List, [], _∷_, _++_}
-use Prim.Native.Nat.{ℕ, zero, suc, _+_, _*_, _≤_, _<_}
+use mathlib.Core.Path.{_≡_, sym, ap, subst, _∙_}
+use mathlib.Core.List.{List, [], _∷_}
+use Prim.Native.Nat.{ℕ, zero, suc, _+_, _≤_, _<_}
 use native.Mathlib.Omega.{arith}
 use lib.ListN.{length, getD, take}
 use lib.Seq.{take-all}
 use Rattle.chains.specs.Limits.{max-settings}
 use Rattle.chains.specs.Grammar.{Grammar}
-use Rattle.chains.specs.Tree.{Bush, size, flat, Kinded, Sub}
+use Rattle.chains.specs.Tree.{Bush, size, Kinded, Sub}
 use Rattle.chains.proofs.Nodes.{flat-length, sub-all, sub-flat, sub-in}
 use Rattle.chains.proofs.WellKinded.{sub-kinded}
 use Rattle.chains.proofs.Read.{one-forest}

@@ -1,9 +1,9 @@
 -- The upward reads: what is read at a node, and from the last node to the first.
-use mathlib.Core.Path.{_≡_, refl, sym, ap, ap₂, subst, _∙_}
-use mathlib.Core.Logic.{_⊎_, inl, inr}
+use mathlib.Core.Path.{_≡_, ap, ap₂, subst, _∙_}
+use mathlib.Core.Logic.{inl, inr}
 use mathlib.Core.Bool.{Bool, true}
-use mathlib.Core.List.{List, [], _∷_}
-use Prim.Native.Nat.{ℕ, zero, suc, _+_, _-_, _≤_, _<_}
+use mathlib.Core.List.{List, []}
+use Prim.Native.Nat.{ℕ, suc, _+_, _-_, _≤_, _<_}
 use native.Mathlib.Decide.{ℕ-discrete}
 use native.Mathlib.Omega.{arith}
 use lib.ListN.{length, getD, set, length-set}
@@ -14,18 +14,17 @@ use Rattle.chains.proofs.Nodes.{sub-in, sub-one}
 use Rattle.book.specs.Format.{grammar, prods}
 use Rattle.bookcheck.specs.Accepted.{Accepted}
 use Rattle.ranks.specs.Entries.{up-start, up-entry, none}
-use Rattle.ranks.specs.Reads.{Found, found, past, up-number, UpFinds, up-said}
+use Rattle.ranks.specs.Reads.{found, past, up-number, UpFinds, up-said}
 use Rattle.ranks.specs.declared.Plausible.{Plausible}
 use Rattle.ranks.specs.declared.UpRead.{UpRead}
 use Rattle.ranks.specs.declared.UpRead.the-variants as read
-use Rattle.ranks.specs.Padded.{CountsPadded, RanksPadded}
+use Rattle.ranks.specs.Padded.{CountsPadded}
 use Rattle.ranks.proofs.Padded.{up-number-is}
 use Rattle.numbering.specs.Walk.{Tables, tables, ranks}
 use Rattle.numbering.specs.Promise.{TreeOf, BadUp}
 use Rattle.numbering.specs.Visits.{rank-of}
 use Rattle.numbering.specs.KeptRanks.{room, plausible-ranks, KeptPlausible}
-use Rattle.numbering.specs.Parts.{Sheeted, Children, Kindred, Ended, Ranked, NoBadUp, UpReads}
-use Rattle.numbering.specs.declared.upward.Reads.{Reads}
+use Rattle.numbering.specs.Parts.{Children, Kindred, Ended, Ranked, NoBadUp, UpReads}
 use Rattle.numbering.specs.declared.upward.Reads.the-variants.{All, Bad}
 use Rattle.numbering.proofs.Keeping.{plausible-long}
 use Rattle.numbering.proofs.Children.{Opened}
@@ -183,7 +182,7 @@ module _ {b l c u kept ends : List ℕ} {i : ℕ} (g : UpGoing b l c u kept ends
           still t d w m q ds s k (no z) = g .read-so-far t d w .0 m q ds s (omega arith)
 
           new : plausible-ranks kept′ ≡ set (plausible-ranks kept) (i - 1) rank
-          new = k .keeps .low eo .1
+          new = k .own .low eo .1
 
           ranked : (t : TreeOf (grammar b) l) (d w : List ℕ) (m q : ℕ) (ds : Bush) → Sub (t .tree) 0 m q ds → i - 1 ≤ m → Dec (m ≡ i - 1)
               → getD (plausible-ranks kept′) m 0 ≡ rank-of (grammar b) (tables c d u w) q ds

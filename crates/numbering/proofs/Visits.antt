@@ -1,21 +1,17 @@
 -- What the walk gives by recursion, by position: the visit of a node, and those below it.
 use mathlib.Core.Path.{_≡_, refl, sym, ap, ap₂, subst, _∙_}
-use mathlib.Core.Logic.{_⊎_, inl, inr}
-use mathlib.Core.List.{List, [], _∷_, _++_, append-assoc, append-nil}
-use Prim.Native.Nat.{ℕ, zero, suc, _+_, _*_, _≤_, _<_}
-use native.Mathlib.Nat.{add-zero}
+use mathlib.Core.Logic.{inl, inr}
+use mathlib.Core.List.{List, [], _∷_, _++_, append-assoc}
+use Prim.Native.Nat.{ℕ, zero, suc, _+_, _≤_, _<_}
 use native.Mathlib.Omega.{arith}
 use lib.ListN.{length, getD, take, drop, length-append, length-drop, List·getD-append}
-use lib.Seq.{getD-append-add, getD-take, getD-drop, take-at, take-append-le, drop-append-le, drop-append-add, drop-drop}
+use lib.Seq.{getD-append-add, take-at, take-append-le, drop-append-le, drop-append-add, drop-drop}
 use Rattle.lists.specs.Part.{part}
-use Rattle.lists.proofs.Parts.{getD-part}
 use Rattle.chains.specs.Grammar.{Grammar, width}
-use Rattle.chains.specs.Tree.{Bush, nil, grow, size, flat, Kinded, Root, Sub}
-use Rattle.chains.proofs.Nodes.{sub-in}
-use Rattle.sheet.specs.Reading.{all-settings}
-use Rattle.numbering.specs.Walk.{Tables, ranks, entry-of, given, Held, numbered, unused, root-labels, Numbered, started, group-numbers, walk, places}
-use Rattle.numbering.specs.Visits.{Visit, nowhere, rank-of, entry-in, held-in, labels-in, handed, after, arrival, visits, journey, visit}
-use Rattle.numbering.proofs.Labelled.{unused-bounds, slot-labels-long, kid-labels-long}
+use Rattle.chains.specs.Tree.{Bush, nil, grow, size, Kinded, Root, Sub}
+use Rattle.numbering.specs.Walk.{Tables, given, walk}
+use Rattle.numbering.specs.Visits.{Visit, nowhere, entry-in, held-in, labels-in, handed, after, arrival, visits}
+use Rattle.numbering.proofs.Labelled.{unused-bounds}
 use Rattle.numbering.specs.Giving.{kinds-width}
 
 -- a part of the first of two lists
@@ -35,10 +31,6 @@ owns-append [] ws = refl
 owns-append (v ∷ vs) ws = ap (λ t. v .own ++ t) (owns-append vs ws) ∙ sym (append-assoc (v .own) (owns-of vs) (owns-of ws))
 
 module _ (G : Grammar) (T : Tables) where
-  -- ── the visits below a node ──
-  below-visits : Visit → List Visit
-  below-visits v = visits G T (v .below) (given T (entry-in G T v)) (handed G T v) (after G T v)
-
   -- of the visits vs the one at t is v, and those below it follow
   pub record Seen (vs : List Visit) (t : ℕ) (v : Visit) : Type 0 where
     pub there : t + size (v .below) < length vs

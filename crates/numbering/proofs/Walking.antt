@@ -3,17 +3,16 @@ use mathlib.Core.Path.{_≡_, refl, sym, ap, ap₂, subst, _∙_}
 use mathlib.Core.Logic.{_⊎_, inl, inr}
 use mathlib.Core.List.{List, [], _∷_, _++_, append-nil}
 use Prim.Native.Nat.{ℕ, zero, suc, _+_, _*_, _≤_, _<_}
-use native.Mathlib.Nat.{zero-add}
 use native.Mathlib.Decide.{decLt, ℕ-discrete}
 use native.Mathlib.Numerals.{add-one}
 use native.Mathlib.Omega.{arith}
-use lib.ListN.{length, getD, take, drop, replicate, length-replicate, getD-replicate, length-append, take-append-drop, List·getD-eq-default}
+use lib.ListN.{length, getD, take, drop, replicate, length-replicate, getD-replicate, take-append-drop, List·getD-eq-default}
 use lib.Seq.{drop-cons, drop-length, take-suc, take-add, take-all, take-length}
 use Rattle.lists.specs.Part.{part, place}
 use Rattle.lists.proofs.Parts.{place-this}
 use Rattle.chains.specs.Limits.{max-settings, max-nodes}
 use Rattle.chains.specs.Grammar.{Grammar, width}
-use Rattle.chains.specs.Tree.{Bush, size, flat, Kinded, Root, Sub}
+use Rattle.chains.specs.Tree.{Bush, flat, Root, Sub}
 use Rattle.chains.proofs.Range.{root-in}
 use Rattle.chains.proofs.Nodes.{parent, sub-in, sub-child}
 use Rattle.chains.proofs.WellKinded.{sub-kinded, root-kids, root-kind, one-tree}
@@ -22,9 +21,9 @@ use Rattle.book.specs.Reading.{Index}
 use Rattle.bookcheck.specs.Accepted.{Accepted}
 use Rattle.sheet.specs.Reading.{all-settings}
 use Rattle.sheet.proofs.Reading.{settings-next}
-use Rattle.numbering.specs.Walk.{Tables, tables, numbered, unused, slot-labels, kid-labels, own-held, root-labels, group-numbers}
+use Rattle.numbering.specs.Walk.{Tables, tables, numbered, slot-labels, kid-labels, own-held, root-labels, group-numbers}
 use Rattle.numbering.specs.Promise.{TreeOf}
-use Rattle.numbering.specs.Visits.{Visit, nowhere, entry-in, held-in, labels-in, handed, after, journey, visit}
+use Rattle.numbering.specs.Visits.{Visit, nowhere, entry-in, handed, after, journey, visit}
 use Rattle.numbering.specs.Parts.{Sheeted, child-at, Children, Ended}
 use Rattle.numbering.specs.Giving.{labels-known, Holding, Firsts, Slot, kinds-width, Written, Kinds, Ready, Instance, Entered, Walkable, Given}
 use Rattle.numbering.proofs.Labelled.{numbered-long, slot-labels-long}

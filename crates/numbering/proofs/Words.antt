@@ -1,5 +1,4 @@
 -- Numbers that fit a word, by what bounds them: answers to what the code asks of its sums, products and casts.
-use mathlib.Core.Path.{_≡_}
 use Prim.Native.Nat.{ℕ, _+_, _-_, _*_, _≤_, _<_}
 use native.Mathlib.Omega.{arith}
 use mir.Syntax.{w8, w16, w64}

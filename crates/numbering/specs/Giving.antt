@@ -11,6 +11,7 @@ use Rattle.chains.specs.Grammar.{Grammar}
 use Rattle.chains.specs.Tree.{Bush, size}
 use Rattle.book.specs.Format.{prods, grammar}
 use Rattle.sheet.specs.Reading.{all-settings}
+use Rattle.ranks.specs.Entries.{byte-values}
 use Rattle.numbering.specs.Walk.{Tables, tables, Held, holder, holds, held, numbered, unused, slot-labels, kid-labels, own-held, group-numbers}
 use Rattle.numbering.specs.Promise.{TreeOf, lent, Grouped}
 use Rattle.numbering.specs.Visits.{entry-in, visit}
@@ -28,7 +29,7 @@ pub record Firsts (G : Grammar) (l firsts : List ℕ) : Type 0 where
 
 -- ── who holds a label ──
 abbrev pub labels-known : ℕ
-labels-known = 256
+labels-known = byte-values
 
 -- the labels that hs holds are those stamped s, each with its first holder's number; no stamp is later than s
 pub record Holding (hs : List Held) (s : ℕ) (stamps numbers : List ℕ) : Type 0 where

@@ -1,20 +1,20 @@
 -- What the parts of the call promise each other on the way to the entries. No promise of the library cites this page.
 use mathlib.Core.Path.{_≡_}
 use mathlib.Core.Bool.{Bool, true, false}
-use mathlib.Core.List.{List, [], _∷_}
-use Prim.Native.Nat.{ℕ, zero, suc, _+_, _-_, _*_, _≤_, _<_}
+use mathlib.Core.List.{List}
+use Prim.Native.Nat.{ℕ, zero, suc, _+_, _-_, _≤_, _<_}
 use lib.Dec.{ltb}
 use lib.ListN.{length, getD}
 use Rattle.lists.specs.Pick.{pick}
 use Rattle.chains.specs.Limits.{max-kids, max-nodes}
 use Rattle.chains.specs.Grammar.{Grammar}
-use Rattle.chains.specs.Tree.{Bush, size, Kinded, Sub}
+use Rattle.chains.specs.Tree.{Bush, size, Sub}
 use Rattle.book.specs.Format.{grammar, prods}
 use Rattle.book.specs.Reading.{Index}
 use Rattle.bookcheck.specs.Accepted.{Accepted}
 use Rattle.ranks.specs.Entries.{up-start, down-start}
 use Rattle.ranks.specs.Reads.{child-rank-at}
-use Rattle.numbering.specs.Walk.{Tables, tables, started}
+use Rattle.numbering.specs.Walk.{Tables, tables}
 use Rattle.numbering.specs.Promise.{TreeOf, BadUp, BadRoot, BadDown, entry-at}
 use Rattle.numbering.specs.Visits.{rank-of, entry-in, visit}
 use Rattle.numbering.specs.KeptRanks.{room, plausible-ranks, feasible-ranks, OnlyFeasible}

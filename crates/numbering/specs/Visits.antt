@@ -5,7 +5,7 @@ use lib.ListN.{getD, take, drop}
 use Rattle.chains.specs.Grammar.{Grammar, width}
 use Rattle.chains.specs.Tree.{Bush, nil, grow}
 use Rattle.ranks.specs.Entries.{up-entry, none}
-use Rattle.numbering.specs.Walk.{Tables, ranks, entry-of, given, Held, numbered, unused, kid-labels, own-held, root-labels, started, Numbered, walk}
+use Rattle.numbering.specs.Walk.{Tables, ranks, entry-of, given, Held, numbered, unused, kid-labels, own-held, root-labels, started, walk}
 
 -- a visit of a node: its production, the forest below it, its feasible rank, the numbers of its own settings, and the next unused number on arrival
 pub record Visit : Type 0 where

@@ -1,11 +1,11 @@
 -- The two walks over a tree, by anyone's tables: ranks from the last node up, then entries and group numbers from the first node on.
-use mathlib.Core.Path.{_≡_}
 use mathlib.Core.Bool.{Bool, true, false}
 use mathlib.Core.List.{List, [], _∷_, _++_}
-use Prim.Native.Nat.{ℕ, zero, suc, _+_, _*_, _≤_, _<_}
+use Prim.Native.Nat.{ℕ, zero, suc, _+_, _*_}
 use lib.Dec.{eqb}
-use lib.ListN.{length, getD, take, drop}
+use lib.ListN.{getD, take, drop}
 use Rattle.lists.specs.Pick.{pick}
+use Rattle.chains.specs.Limits.{max-settings}
 use Rattle.chains.specs.Grammar.{Grammar, width}
 use Rattle.chains.specs.Tree.{Bush, nil, grow}
 use Rattle.ranks.specs.Entries.{up-entry, down-entry, labels, entry-bytes, none}
@@ -34,7 +34,7 @@ abbrev pub given : Tables → ℕ → ℕ → ℕ
 given T e j = getD (T .down) (e * entry-bytes + labels + j) none
 
 abbrev pub label-in : Tables → ℕ → ℕ → ℕ → ℕ
-label-in T e s a = getD (T .down) (e * entry-bytes + (s * 8 + a)) none
+label-in T e s a = getD (T .down) (e * entry-bytes + (s * max-settings + a)) none
 
 -- what is told of each node, in list order: plausible rank, feasible rank, down entry. φ j is the feasible rank of the j-th root
 unfoldable pub places : Grammar → Tables → Bush → (ℕ → ℕ) → List ℕ

@@ -4,7 +4,7 @@ ghost use Prim.Native.Nat.{_^_, _≤_, _<_};
 ghost use lib.ListN.{length};
 ghost use Rattle.chains.specs.Limits.{max-kids};
 ghost use Rattle.book.specs.Format.{kinds};
-ghost use Rattle.ranks.specs.Entries.{choices};
+ghost use Rattle.ranks.specs.Entries.{choices, byte-values};
 ghost use Rattle.ranks.specs.Reads as reads;
 ghost use Rattle.numbering.specs.Parts.{Indexed, UpStarts, DownStarts};
 use super::kin::kid_counts;
@@ -13,7 +13,7 @@ use ranks::KIDS;
 
 // The number of choices for children of these counts.
 fn choices_of(counts: [u8; KIDS]) -> u64
-    ensures { λ r. ⌜ (r ≡ choices counts reads.places) × (r ≤ 256 ^ max-kids) ⌝ }
+    ensures { λ r. ⌜ (r ≡ choices counts reads.places) × (r ≤ byte-values ^ max-kids) ⌝ }
 {
     let mut product: u64 = 1;
     let mut j = KIDS;

@@ -7,7 +7,7 @@ use native.Mathlib.Numerals.{add-one}
 use native.Mathlib.Omega.{arith}
 use lib.ListN.{length, getD, drop}
 use lib.Seq.{drop-cons}
-use Rattle.ranks.specs.Entries.{choices, choice}
+use Rattle.ranks.specs.Entries.{choices, choice, byte-values}
 use Rattle.ranks.specs.Reads.{from}
 use Rattle.ranks.proofs.Digits.{digit-below}
 
@@ -15,10 +15,10 @@ use Rattle.ranks.proofs.Digits.{digit-below}
 abbrev pub under : ℕ → List ℕ → List ℕ → List ℕ → ℕ
 under most ns ks rs = most * choices ns ks + choice ns ks rs
 
--- x is the number of most and of the first i of n children's ranks rs, whose counts are ns; all of these are below 256
+-- x is the number of most and of the first i of n children's ranks rs, whose counts are ns; all of these are bytes
 pub record Counting (n most : ℕ) (ns rs : List ℕ) (x i : ℕ) : Type 0 where
   pub at : i ≤ n
-  pub small : x < 256 ^ suc i
+  pub small : x < byte-values ^ suc i
   pub rest : under x ns (from i (n - i)) (drop i rs) ≡ under most ns (from 0 n) rs
 
 under-step : (x : ℕ) (ns : List ℕ) (k : ℕ) (ks : List ℕ) (r : ℕ) (rs : List ℕ) → under (x * getD ns k 0 + r) ns ks rs ≡ under x ns (k ∷ ks) (r ∷ rs)
@@ -28,23 +28,23 @@ under-step x ns k ks r rs =
     ∙ add-assoc (x * (getD ns k 0 * choices ns ks)) (r * choices ns ks) (choice ns ks rs)
 
 module _ (n most : ℕ) (ns rs : List ℕ) where
-  pub counting-none : {x : ℕ} → x ≡ most → x < 256 → Counting n most ns rs x 0
+  pub counting-none : {x : ℕ} → x ≡ most → x < byte-values → Counting n most ns rs x 0
   counting-none e h = record { at = omega arith; small = omega arith; rest = rw (sub-zero, e) }
 
 module _ {n most : ℕ} {ns rs : List ℕ} {x i : ℕ} (k : Counting n most ns rs x i) where
-  pub counting-small : x < 256 ^ suc n
-  counting-small = omega (arith, pow-le-pow-right {n = 256} (omega arith) {i = suc i} {j = suc n} (omega (arith, k .at)))
+  pub counting-small : x < byte-values ^ suc n
+  counting-small = omega (arith, pow-le-pow-right {n = byte-values} (omega arith) {i = suc i} {j = suc n} (omega (arith, k .at)))
 
   -- the next child's count y and rank r
-  grown : {y r : ℕ} → y < 256 → r < 256 → x * y + r < 256 ^ suc (suc i)
+  grown : {y r : ℕ} → y < byte-values → r < byte-values → x * y + r < byte-values ^ suc (suc i)
   grown {y} {r} ly lr =
-      let b : x * y ≤ x * 256 = mul-le-mul-left x (omega arith) in
-      omega (arith, digit-below {m = 256} x r (k .small) lr, pow-suc 256 (suc i))
+      let b : x * y ≤ x * byte-values = mul-le-mul-left x (omega arith) in
+      omega (arith, digit-below {m = byte-values} x r (k .small) lr, pow-suc byte-values (suc i))
 
-  pub counting-sum : i < n → {y r : ℕ} → y < 256 → r < 256 → x * y + r < 256 ^ suc n
-  counting-sum more ly lr = omega (arith, grown ly lr, pow-le-pow-right {n = 256} (omega arith) {i = suc (suc i)} {j = suc n} (omega arith))
+  pub counting-sum : i < n → {y r : ℕ} → y < byte-values → r < byte-values → x * y + r < byte-values ^ suc n
+  counting-sum more ly lr = omega (arith, grown ly lr, pow-le-pow-right {n = byte-values} (omega arith) {i = suc (suc i)} {j = suc n} (omega arith))
 
-  pub counting-step : i < n → i < length rs → {y r : ℕ} → y ≡ getD ns i 0 → y < 256 → r ≡ getD rs i 0 → r < 256 → Counting n most ns rs (x * y + r) (i + 1)
+  pub counting-step : i < n → i < length rs → {y r : ℕ} → y ≡ getD ns i 0 → y < byte-values → r ≡ getD rs i 0 → r < byte-values → Counting n most ns rs (x * y + r) (i + 1)
   unfolding from
   counting-step more here {y} {r} ey ly er lr =
       let e : n - i ≡ suc (n - suc i) = omega arith in

@@ -46,11 +46,6 @@ choice-ranks-of c (k ∷ ks) x h =
     ap (λ t. x / choices c ks * choices c ks + t) (choice-ranks-of c ks (x % choices c ks) (rest-below (getD c k 0) (choices c ks) x h))
     ∙ div-add-mod' x (choices c ks)
 
-pub ranks-of-choice : (c ks rs : List ℕ) → Ranks c ks rs → ranks-of c ks (choice c ks rs) ≡ rs
-ranks-of-choice c ks rs h =
-    let l = choice-below c ks rs h in
-    choice-once c ks (ranks-of c ks (choice c ks rs)) rs (ranks-of-below c ks (choice c ks rs) l) h (choice-ranks-of c ks (choice c ks rs) l)
-
 -- kinds with at most m members each
 pub choices-few : (c : List ℕ) (m : ℕ) (ks : List ℕ) → ((j : ℕ) → j < length ks → getD c (getD ks j 0) 0 ≤ m) → choices c ks ≤ m ^ length ks
 unfolding choices
@@ -150,19 +145,6 @@ module _ (G : Grammar) (c d : List ℕ) where
   pub down-entry-below : (p n f : ℕ) (rs : List ℕ) → p < n → f < getD d (G .left p) 0 → Ranks c (G .kids p) rs
       → down-entry G c d p f rs < down-start G c d n
   down-entry-below p n f rs h l r = omega (arith, down-start-after p n h, within-below p f rs l r)
-
-  pub down-entry-once : (p p′ f f′ : ℕ) (rs rs′ : List ℕ) → f < getD d (G .left p) 0 → f′ < getD d (G .left p′) 0
-      → Ranks c (G .kids p) rs → Ranks c (G .kids p′) rs′ → down-entry G c d p f rs ≡ down-entry G c d p′ f′ rs′
-      → (p ≡ p′) × (f ≡ f′) × (rs ≡ rs′)
-  unfolding downs
-  down-entry-once p p′ f f′ rs rs′ l l′ r r′ e =
-      let w = within c (G .kids p) f rs in
-      let w′ = within c (G .kids p′) f′ rs′ in
-      let g : starts downs p + w ≡ starts downs p′ + w′ = rw (← down-starts p, ← down-starts p′) e in
-      let t = run-once downs p w p′ w′ (within-below p f rs l r) (within-below p′ f′ rs′ l′ r′) g in
-      let r″ : Ranks c (G .kids p) rs′ = rw (t .0) r′ in
-      let u = digit-once f (choice c (G .kids p) rs) f′ (choice c (G .kids p) rs′) (choice-below c (G .kids p) rs r) (choice-below c (G .kids p) rs′ r″) (t .1 ∙ rw (t .0)) in
-      (t .0, u .0, choice-once c (G .kids p) rs rs′ r r″ (u .1))
 
   pub down-entry-of : (n x : ℕ) → x < down-start G c d n → DownEntryOf G c d n x
   unfolding downs

@@ -48,6 +48,10 @@ labels = suc max-kids * max-settings
 abbrev pub entry-bytes : ℕ
 entry-bytes = labels + max-kids
 
+-- a count, a rank and a label are bytes, of which there are so many
+abbrev pub byte-values : ℕ
+byte-values = 256
+
 -- the absence of a label or a rank
 abbrev pub none : ℕ
 none = 255

@@ -3,7 +3,7 @@ ghost use mathlib.Core.Path.{_≡_};
 ghost use Prim.Native.Nat.{suc, _+_, _*_, _^_, _<_};
 ghost use lib.ListN.{getD};
 ghost use Rattle.chains.specs.Limits.{max-kids};
-ghost use Rattle.ranks.specs.Entries.{choices, choice, entry-bytes, none};
+ghost use Rattle.ranks.specs.Entries.{choices, choice, byte-values, entry-bytes, none};
 ghost use Rattle.ranks.specs.Reads.{up-said, down-said, numbers, places, up-number, down-number, UpFinds, DownFinds, entry-at, label-at, child-rank-at};
 
 // The children of a production, and a down entry: a label for each occurrence, then a rank for each child.
@@ -31,14 +31,14 @@ pub enum DownRead {
 }
 
 fn wide(x: u8) -> u64
-    ensures { λ r. ⌜ (r ≡ x) × (r < 256) ⌝ }
+    ensures { λ r. ⌜ (r ≡ x) × (r < byte-values) ⌝ }
 {
     x as u64
 }
 
 // The number of a choice, child 1's rank counting most, under a digit that counts more than all of them.
 fn numbered(most: u8, counts: [u8; KIDS], ranks: [Plausible; KIDS]) -> u64
-    ensures { λ r. ⌜ (r ≡ most * choices counts places + choice counts places (numbers ranks)) × (r < 256 ^ suc max-kids) ⌝ }
+    ensures { λ r. ⌜ (r ≡ most * choices counts places + choice counts places (numbers ranks)) × (r < byte-values ^ suc max-kids) ⌝ }
 {
     let mut number = wide(most);
     let mut i = 0;

@@ -5,10 +5,6 @@ use Rattle.numbering.proofs.Settled.{let-in, kept-out}
 use borrow.Author.Needs.{needs}
 use Rattle.numbering.proofs.group_sheet.Statement.{statement}
 use Rattle.numbering.proofs.group_sheet.Tie as tie
-use Rattle.numbering.proofs.group_sheet.Reads as reads
-use Rattle.numbering.proofs.group_sheet.Lts as lts
-use Rattle.admission.proofs.admit.Reads as admit-reads
-use Rattle.numbering.proofs.settling.settle.Reads as settle-reads
 
 admit-requires : tie.Need-admit-requires
 admit-requires c κs = search needs

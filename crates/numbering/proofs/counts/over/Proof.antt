@@ -5,8 +5,6 @@ use Rattle.bookcheck.proofs.Answers.{tells-yes}
 use Rattle.numbering.proofs.Counted.{Low, low-none, low-next, low-all}
 use Rattle.numbering.proofs.counts.over.Statement.{statement}
 use Rattle.numbering.proofs.counts.over.Tie as tie
-use Rattle.numbering.proofs.counts.over.Reads as reads
-use Rattle.numbering.proofs.counts.over.Lts as lts
 
 abbrev Inv-loop : tie.InvT-loop
 Inv-loop counts n k₀ k = Low counts k

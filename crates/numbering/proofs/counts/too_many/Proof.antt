@@ -4,10 +4,6 @@ use Rattle.bookcheck.proofs.Accepted.{told-kinds}
 use Rattle.numbering.proofs.Counted.{many-plausible, many-feasible}
 use Rattle.numbering.proofs.counts.too_many.Statement.{statement}
 use Rattle.numbering.proofs.counts.too_many.Tie as tie
-use Rattle.numbering.proofs.counts.too_many.Reads as reads
-use Rattle.numbering.proofs.counts.too_many.Lts as lts
-use Rattle.book.proofs.kinds.Reads as kinds-reads
-use Rattle.numbering.proofs.counts.over.Reads as over-reads
 
 kinds-requires : tie.Need-kinds-requires
 kinds-requires c κs = tt

@@ -5,10 +5,6 @@ use Rattle.numbering.proofs.Words.{wide, wide-below, next-byte, less-le
 use Rattle.numbering.proofs.Children.{opened, kid-low, Counting, counting-none, counting-turn, counting-done}
 use Rattle.numbering.proofs.kin.kid_counts.Statement.{statement}
 use Rattle.numbering.proofs.kin.kid_counts.Tie as tie
-use Rattle.numbering.proofs.kin.kid_counts.Reads as reads
-use Rattle.numbering.proofs.kin.kid_counts.Lts as lts
-use Rattle.book.proofs.arity.Reads as arity-reads
-use Rattle.book.proofs.kid.Reads as kid-reads
 
 abbrev Inv-loop : tie.InvT-loop
 Inv-loop book places p counts at kids out₀ j₀ out j = Counting book counts p at kids out j

@@ -7,9 +7,6 @@ use Rattle.numbering.proofs.Trees.{node-at}
 use Rattle.numbering.proofs.Firsts.{Placing, placing-none, placing-turn, placing-done}
 use Rattle.numbering.proofs.numbers.first_places.Statement.{statement}
 use Rattle.numbering.proofs.numbers.first_places.Tie as tie
-use Rattle.numbering.proofs.numbers.first_places.Reads as reads
-use Rattle.numbering.proofs.numbers.first_places.Lts as lts
-use Rattle.numbering.proofs.numbers.own_width.Reads as own-width-reads
 
 abbrev Inv-loop : tie.InvT-loop
 Inv-loop book places sheet firsts₀ next₀ i₀ firsts next i = Placing (grammar book) sheet firsts next i

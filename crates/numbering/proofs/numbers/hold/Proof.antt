@@ -3,8 +3,6 @@ use native.Mathlib.Omega.{arith}
 use Rattle.numbering.proofs.Holders.{held-again, held-first}
 use Rattle.numbering.proofs.numbers.hold.Statement.{statement}
 use Rattle.numbering.proofs.numbers.hold.Tie as tie
-use Rattle.numbering.proofs.numbers.hold.Reads as reads
-use Rattle.numbering.proofs.numbers.hold.Lts as lts
 
 mul-if1 : tie.Need-mul-if1
 mul-if1 c = omega arith

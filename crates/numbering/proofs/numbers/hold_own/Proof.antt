@@ -8,10 +8,6 @@ use Rattle.numbering.proofs.Words.{less-left}
 use Rattle.numbering.proofs.Slots.{own-none, own-turn, own-done}
 use Rattle.numbering.proofs.numbers.hold_own.Statement.{statement}
 use Rattle.numbering.proofs.numbers.hold_own.Tie as tie
-use Rattle.numbering.proofs.numbers.hold_own.Reads as reads
-use Rattle.numbering.proofs.numbers.hold_own.Lts as lts
-use Rattle.numbering.proofs.numbers.hold.Reads as hold-reads
-use Rattle.ranks.proofs.label.Reads as label-reads
 
 abbrev Inv-loop : tie.InvT-loop
 Inv-loop down entry width at stamp groups stamps₀ held₀ a₀ stamps held a = Held-own down entry a at stamp groups stamps₀ held₀ stamps held × (a ≤ width) × (length stamps ≡ labels-known) × (length held ≡ labels-known)

@@ -10,12 +10,6 @@ use Rattle.numbering.proofs.Trees.{node-at, root-inside}
 use Rattle.numbering.proofs.Walking.{Walking, walking-begins, beyond-root, walking-ready, walking-turn, walking-done}
 use Rattle.numbering.proofs.numbers.number_all.Statement.{statement}
 use Rattle.numbering.proofs.numbers.number_all.Tie as tie
-use Rattle.numbering.proofs.numbers.number_all.Reads as reads
-use Rattle.numbering.proofs.numbers.number_all.Lts as lts
-use Rattle.numbering.proofs.numbers.first_places.Reads as first-places-reads
-use Rattle.numbering.proofs.numbers.number_node.Reads as number-node-reads
-use Rattle.numbering.proofs.numbers.number_slot.Reads as number-slot-reads
-use Rattle.numbering.proofs.numbers.own_width.Reads as own-width-reads
 
 abbrev Inv-loop : tie.InvT-loop
 Inv-loop book places sheet down ends entries groups₀ firsts stamps₀ held₀ next₀ i₀ groups stamps held next i =

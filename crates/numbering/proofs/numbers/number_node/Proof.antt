@@ -8,14 +8,6 @@ use Rattle.numbering.proofs.Families.{Naming, naming-none, naming-insid
 use Rattle.numbering.proofs.Instances.{ready-fits, instance}
 use Rattle.numbering.proofs.numbers.number_node.Statement.{statement}
 use Rattle.numbering.proofs.numbers.number_node.Tie as tie
-use Rattle.numbering.proofs.numbers.number_node.Reads as reads
-use Rattle.numbering.proofs.numbers.number_node.Lts as lts
-use Rattle.book.proofs.arity.Reads as arity-reads
-use Rattle.book.proofs.kid.Reads as kid-reads
-use Rattle.book.proofs.settings.Reads as settings-reads
-use Rattle.numbering.proofs.numbers.hold_own.Reads as hold-own-reads
-use Rattle.numbering.proofs.numbers.number_slot.Reads as number-slot-reads
-use Rattle.numbering.proofs.numbers.own_width.Reads as own-width-reads
 
 abbrev Inv-loop : tie.InvT-loop
 Inv-loop book places sheet down entry ends firsts i first stamps₀ held₀ groups₀ p stamp place kids next₀ child₀ j₀ stamps held groups next child j =

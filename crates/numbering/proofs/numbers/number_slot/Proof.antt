@@ -8,10 +8,6 @@ use Rattle.numbering.proofs.Words.{less-left}
 use Rattle.numbering.proofs.Slots.{slot-none, slot-turn, slot-done}
 use Rattle.numbering.proofs.numbers.number_slot.Statement.{statement}
 use Rattle.numbering.proofs.numbers.number_slot.Tie as tie
-use Rattle.numbering.proofs.numbers.number_slot.Reads as reads
-use Rattle.numbering.proofs.numbers.number_slot.Lts as lts
-use Rattle.numbering.proofs.numbers.hold.Reads as hold-reads
-use Rattle.ranks.proofs.label.Reads as label-reads
 
 abbrev Inv-loop : tie.InvT-loop
 Inv-loop down entry slot width at stamp first stamps₀ held₀ groups₀ next₀ a₀ stamps held groups next a = Slot down entry slot a at stamp first stamps₀ held₀ groups₀ stamps held groups next × (a ≤ width) × (length stamps ≡ labels-known) × (length held ≡ labels-known)

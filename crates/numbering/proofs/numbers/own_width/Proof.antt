@@ -4,10 +4,6 @@ use Rattle.numbering.proofs.Children.{own-width}
 use Rattle.numbering.proofs.Trees.{few-settings}
 use Rattle.numbering.proofs.numbers.own_width.Statement.{statement}
 use Rattle.numbering.proofs.numbers.own_width.Tie as tie
-use Rattle.numbering.proofs.numbers.own_width.Reads as reads
-use Rattle.numbering.proofs.numbers.own_width.Lts as lts
-use Rattle.book.proofs.left.Reads as left-reads
-use Rattle.book.proofs.settings.Reads as settings-reads
 
 mul-left : tie.Need-mul-left
 mul-left c = omega arith

@@ -6,8 +6,6 @@ use Rattle.chains.specs.Limits.{max-kids}
 use Rattle.numbering.proofs.Products.{Multiplying, multiplying-none, multiplying-turn, multiplying-small, multiplying-done}
 use Rattle.numbering.proofs.starts.choices_of.Statement.{statement}
 use Rattle.numbering.proofs.starts.choices_of.Tie as tie
-use Rattle.numbering.proofs.starts.choices_of.Reads as reads
-use Rattle.numbering.proofs.starts.choices_of.Lts as lts
 
 abbrev Inv-loop : tie.InvT-loop
 Inv-loop counts product₀ j₀ product j = Multiplying max-kids counts product j

@@ -7,12 +7,6 @@ use Rattle.numbering.proofs.Words.{less-left, prod-after, prod-eight, b
 use Rattle.numbering.proofs.Products.{DownSumming, down-summing-none, product-small, down-summing-turn, down-summing-done}
 use Rattle.numbering.proofs.starts.down_starts.Statement.{statement}
 use Rattle.numbering.proofs.starts.down_starts.Tie as tie
-use Rattle.numbering.proofs.starts.down_starts.Reads as reads
-use Rattle.numbering.proofs.starts.down_starts.Lts as lts
-use Rattle.book.proofs.left.Reads as left-reads
-use Rattle.book.proofs.productions.Reads as productions-reads
-use Rattle.numbering.proofs.kin.kid_counts.Reads as kid-counts-reads
-use Rattle.numbering.proofs.starts.choices_of.Reads as choices-of-reads
 
 abbrev Inv-loop : tie.InvT-loop
 Inv-loop book places counts feasible-counts n starts₀ next₀ p₀ starts next p = DownSumming book counts feasible-counts n starts next p

@@ -6,11 +6,6 @@ use Rattle.numbering.proofs.Words.{less-left, prod-after, prod-eight, b
 use Rattle.numbering.proofs.Products.{UpSumming, up-summing-none, up-summing-turn, up-summing-done}
 use Rattle.numbering.proofs.starts.up_starts.Statement.{statement}
 use Rattle.numbering.proofs.starts.up_starts.Tie as tie
-use Rattle.numbering.proofs.starts.up_starts.Reads as reads
-use Rattle.numbering.proofs.starts.up_starts.Lts as lts
-use Rattle.book.proofs.productions.Reads as productions-reads
-use Rattle.numbering.proofs.kin.kid_counts.Reads as kid-counts-reads
-use Rattle.numbering.proofs.starts.choices_of.Reads as choices-of-reads
 
 abbrev Inv-loop : tie.InvT-loop
 Inv-loop book places counts n starts₀ next₀ p₀ starts next p = UpSumming book counts n starts next p

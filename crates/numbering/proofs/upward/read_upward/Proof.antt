@@ -138,7 +138,7 @@ returns-2 c =
     let o = opened (pre .0) known refl (c .before .before .before .before .before .before .before .before .before .before .before .before .before .before .arity .ensures) in
     let asked = up-asked o (c .before .before .before .before .before .before .before .before .before .kid-counts .ensures) (c .before .before .before .before .before .before .before .before .before .before .before .kin-of .ensures) (c .before .before .before .before .before .before .before .before .before .before .before .before .before .before .before .before .before .before .before .up-starts .ensures .each _ known) in
     let k = c .before .keep-plausible .ensures in
-    let high = read-high asked (c .before .before .before .before .before .before .before .before .read-up .ensures) (c .before .before .before .before .before .before .rank .given .1) (left-is (pre .0) known refl (c .before .before .before .before .left .ensures)) (k .keeps .high (not-true _ (c .if1 .taken)) .0) in
+    let high = read-high asked (c .before .before .before .before .before .before .before .before .read-up .ensures) (c .before .before .before .before .before .before .rank .given .1) (left-is (pre .0) known refl (c .before .before .before .before .left .ensures)) (k .own .high (not-true _ (c .if1 .taken)) .0) in
     going-bad g (pre .1 .tree-of) (pre .0 .accepted) some refl high (k .long ∙ g .kept-long)
 
 cast-ends : tie.Need-cast-ends Inv-loop μ-loop
@@ -149,7 +149,7 @@ cast-ends c =
     let known = going-known g some (pre .1 .tree-of) in
     let o = opened (pre .0) known refl (c .before .before .before .before .before .before .before .before .before .before .before .before .before .before .before .arity .ensures) in
     let asked = up-asked o (c .before .before .before .before .before .before .before .before .before .before .kid-counts .ensures) (c .before .before .before .before .before .before .before .before .before .before .before .before .kin-of .ensures) (c .before .before .before .before .before .before .before .before .before .before .before .before .before .before .before .before .before .before .before .before .up-starts .ensures .each _ known) in
-    place-word (going-end g (pre .1 .tree-of) (pre .0 .accepted) some refl (read-good asked (c .before .before .before .before .before .before .before .before .before .read-up .ensures) (c .before .before .before .before .before .before .before .rank .given .1) (left-is (pre .0) known refl (c .before .before .before .before .before .left .ensures)) (c .before .before .keep-plausible .ensures .keeps .low (not-false _ (c .before .if1 .left)) .0)))
+    place-word (going-end g (pre .1 .tree-of) (pre .0 .accepted) some refl (read-good asked (c .before .before .before .before .before .before .before .before .before .read-up .ensures) (c .before .before .before .before .before .before .before .rank .given .1) (left-is (pre .0) known refl (c .before .before .before .before .before .left .ensures)) (c .before .before .keep-plausible .ensures .own .low (not-false _ (c .before .if1 .left)) .0)))
 
 mul-ends : tie.Need-mul-ends Inv-loop μ-loop
 mul-ends c = place-twice (going-inside (c .before .before .before .before .before .before .before .before .before .before .before .before .before .before .before .before .before .before .before .loop .inv) (c .before .before .before .before .before .before .before .before .before .before .before .before .before .before .before .before .before .before .loop-test .taken))
@@ -170,7 +170,7 @@ loop-again c =
     let asked = up-asked o (c .before .before .before .before .before .before .before .before .before .before .kid-counts .ensures) (c .before .before .before .before .before .before .before .before .before .before .before .before .kin-of .ensures) (c .before .before .before .before .before .before .before .before .before .before .before .before .before .before .before .before .before .before .before .before .up-starts .ensures .each _ known) in
     let stays = not-false _ (c .before .if1 .left) in
     let k = c .before .before .keep-plausible .ensures in
-    let good = read-good asked (c .before .before .before .before .before .before .before .before .before .read-up .ensures) (c .before .before .before .before .before .before .before .rank .given .1) (left-is (pre .0) known refl (c .before .before .before .before .before .left .ensures)) (k .keeps .low stays .0) in
+    let good = read-good asked (c .before .before .before .before .before .before .before .before .before .read-up .ensures) (c .before .before .before .before .before .before .before .rank .given .1) (left-is (pre .0) known refl (c .before .before .before .before .before .left .ensures)) (k .own .low stays .0) in
     going-turn g (pre .1 .tree-of) (pre .0 .accepted) some refl good k stays refl
 
 returns-3 : tie.Need-returns-3 Inv-loop μ-loop
