@@ -66,6 +66,24 @@ static void books(void) {
     changed("no production of kind 2", 40, 1, 47, 1, 8, 2);
 }
 
+/* A kind without settings and a production of it, and zeros up to a trailer whose distances, as two bytes hold them, are given. */
+static void far_trailer(const char *what, size_t trailer, uint16_t kinds, uint16_t productions) {
+    static uint8_t book[100000];
+    const uint16_t fields[6] = {1, 1, 1, 0, kinds, productions};
+    memset(book, 0, sizeof book);
+    for (unsigned i = 0; i < 6; i++) {
+        book[trailer + 2 * i] = (uint8_t)fields[i];
+        book[trailer + 2 * i + 1] = (uint8_t)(fields[i] >> 8);
+    }
+    expect_book(what, book, trailer + 12, 4, 0);
+}
+
+/* No distance reaches so far back: they are right only where 65,536 is taken for 0. */
+static void long_books(void) {
+    far_trailer("65,548 bytes", 65536, 0, 65534);
+    far_trailer("100,000 bytes", 99988, 34452, 34450);
+}
+
 static void on_fig1(const char *what, const char *sheet, size_t length, unsigned number, unsigned place) {
     expect(what, check_sheet(fig1, 66, (const uint8_t *)sheet, length), number, place);
 }
@@ -153,6 +171,7 @@ int main(void) {
     build_fence(&book_fence);
     build_fence(&sheet_fence);
     books();
+    long_books();
     sheets();
     levels();
     lengths();

@@ -10,7 +10,7 @@ void *memcpy(void *to, const void *from, size_t length);
 void *mmap(void *at, size_t length, int protection, int flags, int file, long offset);
 int mprotect(void *at, size_t length, int protection);
 
-enum { NONE = 0, READ = 1, WRITE = 2, PRIVATE_ANONYMOUS = 0x22, PAGE = 4096, ROOM = 10 * PAGE };
+enum { NONE = 0, READ = 1, WRITE = 2, PRIVATE_ANONYMOUS = 0x22, PAGE = 4096, ROOM = 25 * PAGE };
 
 /* What no check may answer. */
 #define UNLIKE UINT64_C(0xffffffffffffffff)

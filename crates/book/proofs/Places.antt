@@ -11,7 +11,7 @@ use lib.Seq.{getD-set-same, getD-set-other, ext-getD}
 use borrow.Author.Tests.{lt-ltb, le-ltb}
 use Rattle.lists.specs.Pick.{pick}
 use Rattle.chains.specs.Limits.{max-prods}
-use Rattle.book.specs.Format.{trailer, back-to-prods, next-at, entry}
+use Rattle.book.specs.Format.{trailer-bytes, trailer, back-to-prods, next-at, entry-most, entry}
 use Rattle.book.specs.Reading.{told, Index}
 
 pub entry-first : (b : List ℕ) → entry b 0 ≡ trailer b - back-to-prods b
@@ -24,11 +24,11 @@ entry-next b p = rw add-one
 
 -- the first entry by what the trailer tells; without a trailer there is nothing to point back from
 pub first-told : (b : List ℕ) → entry b 0 ≡ trailer b - told b 5
-first-told b = go (decLt (length b) 12)
+first-told b = go (decLt (length b) trailer-bytes)
   where
-    go : Dec (length b < 12) → entry b 0 ≡ trailer b - told b 5
+    go : Dec (length b < trailer-bytes) → entry b 0 ≡ trailer b - told b 5
     go (yes h) = omega (arith, entry-first b)
-    go (no h) = rw (le-ltb (length b) 12 (omega arith)) (entry-first b)
+    go (no h) = rw (le-ltb (length b) trailer-bytes (omega arith)) (entry-first b)
 
 -- p of the n entries are written down, and the next one stands at `at`
 pub record Walking (b : List ℕ) (n : ℕ) (places : List ℕ) (at p : ℕ) : Type 0 where
@@ -36,7 +36,7 @@ pub record Walking (b : List ℕ) (n : ℕ) (places : List ℕ) (at p : ℕ) : T
   pub done : p ≤ n
   pub long : length places ≡ max-prods
   pub here : at ≡ entry b p
-  pub near : at ≤ length b + 768 * p
+  pub near : at ≤ length b + entry-most * p
   pub written : (q : ℕ) → q < p → getD places q 0 ≡ entry b q
   pub blank : (q : ℕ) → p ≤ q → q < max-prods → getD places q 0 ≡ 0
 
@@ -51,7 +51,7 @@ walk-begins b n at f h = record {
   blank = λ q l m. getD-replicate {A = ℕ} max-prods q 0 0 m;
 }
 
-pub walk-goes : {b places : List ℕ} {n at p : ℕ} (next : ℕ) → Walking b n places at p → p < n → next ≡ next-at b at → next ≤ at + 768
+pub walk-goes : {b places : List ℕ} {n at p : ℕ} (next : ℕ) → Walking b n places at p → p < n → next ≡ next-at b at → next ≤ at + entry-most
     → Walking b n (set places p at) next (p + 1)
 walk-goes {b} {places} {n} {at} {p} next w l e near = record {
   few = w .few;

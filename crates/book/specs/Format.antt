@@ -9,9 +9,16 @@ use Rattle.lists.specs.Part.{part}
 use Rattle.chains.specs.Grammar.{Occ, Tie, Grammar}
 
 -- ── the trailer ──
--- the place of its first byte; there is one where the book has 12 bytes
+-- its fields, of two bytes each
+abbrev pub fields : ℕ
+fields = 6
+
+abbrev pub trailer-bytes : ℕ
+trailer-bytes = 2 * fields
+
+-- the place of its first byte; there is one where the book has its bytes
 abbrev pub trailer : List ℕ → ℕ
-trailer b = length b - 12
+trailer b = length b - trailer-bytes
 
 -- its i-th field, of two bytes, the low one first
 abbrev pub field : List ℕ → ℕ → ℕ
@@ -19,6 +26,10 @@ field b i = getD b (trailer b + 2 * i) 0 + 256 * getD b (trailer b + 2 * i + 1) 
 
 abbrev pub edition : List ℕ → ℕ
 edition b = field b 0
+
+-- the book is of an edition that its readers know
+abbrev pub Known : List ℕ → Type 0
+Known b = edition b ≡ 1
 
 abbrev pub kinds : List ℕ → ℕ
 kinds b = field b 1
@@ -72,6 +83,10 @@ bytes-at b at = part (after-kids b at + 1) (2 * pairs-at b at) b
 abbrev pub next-at : List ℕ → ℕ → ℕ
 next-at b at = pair-place b at (pairs-at b at)
 
+-- the most bytes that an entry takes by its own counts, each of them a byte
+abbrev pub entry-most : ℕ
+entry-most = 3 + 255 + 2 * 255
+
 -- the place of the p-th production entry
 unfoldable pub entry : List ℕ → ℕ → ℕ
 entry b zero = trailer b - back-to-prods b
@@ -106,7 +121,7 @@ Walks b (suc n) at e = (next-at b at ≤ trailer b) × Walks b n (next-at b at) 
 
 -- the three parts fill the book without gap or remainder
 pub record Laid (b : List ℕ) : Type 0 where
-  pub whole : 12 ≤ length b
+  pub whole : trailer-bytes ≤ length b
   pub from-front : back-to-kinds b ≡ trailer b
   pub then-prods : back-to-prods b + 2 * kinds b ≡ trailer b
   pub to-trailer : Walks b (prods b) (trailer b - back-to-prods b) (trailer b)

@@ -8,11 +8,11 @@ use lib.ListN.{length, getD}
 use Rattle.lists.specs.Pick.{pick}
 use Rattle.chains.specs.Limits.{max-prods}
 use Rattle.chains.specs.Grammar.{Tie}
-use Rattle.book.specs.Format.{field, left-at, arity-at, pair-place, next-at, entry, occ}
+use Rattle.book.specs.Format.{trailer-bytes, field, left-at, arity-at, pair-place, next-at, entry, occ}
 
 -- the i-th field of the trailer, where there is a trailer
 abbrev pub told : List ℕ → ℕ → ℕ
-told b i = pick (ltb (length b) 12) 0 (field b i)
+told b i = pick (ltb (length b) trailer-bytes) 0 (field b i)
 
 -- the kind entries stand at the front, two bytes each
 abbrev pub settings-of : List ℕ → ℕ → ℕ

@@ -7,7 +7,7 @@ pub mod limits;
 ghost use mathlib.Core.Path.{_≡_};
 ghost use Prim.Native.Nat.{_+_, _*_, _<_, _≤_, min};
 ghost use lib.ListN.{length, getD};
-ghost use Rattle.book.specs.Format.{arity-at, left-at, pairs-at, next-at, entry};
+ghost use Rattle.book.specs.Format.{arity-at, left-at, after-kids, pairs-at, pair-place, next-at, entry, entry-most};
 ghost use Rattle.chains.specs.Limits.{max-prods};
 ghost use Rattle.book.specs.Reading.{told, settings-of, mask-of, kid-at, kind-in, to-at, from-at, following, Index};
 
@@ -121,25 +121,39 @@ pub fn kind_in(book: &[u8], at: usize, s: u8) -> u8
     kid(book, at, s - 1)
 }
 
+// How far behind `at` its children end: the number of its pairs stands there, then the pairs.
+fn behind_kids(book: &[u8], at: usize) -> usize
+    ensures { λ r. ⌜ (at + r ≡ after-kids (now (book .entry)) at) × (r < 2 + 256) ⌝ }
+{
+    2 + wide(arity(book, at))
+}
+
+// How far behind `at` its pair `i` stands.
+fn pair_offset(book: &[u8], at: usize, i: u8) -> usize
+    ensures { λ r. ⌜ (at + r ≡ pair-place (now (book .entry)) at i) × (r ≤ entry-most) ⌝ }
+{
+    behind_kids(book, at) + 1 + 2 * wide(i)
+}
+
 // Its number of pairs.
 pub fn pairs(book: &[u8], at: usize) -> u8
     ensures { λ r. ⌜ r ≡ pairs-at (now (book .entry)) at ⌝ }
 {
-    byte(book, at, 2 + wide(arity(book, at)))
+    byte(book, at, behind_kids(book, at))
 }
 
 // The occurrence that its pair `i` works out, from 0.
 pub fn to(book: &[u8], at: usize, i: u8) -> u8
     ensures { λ r. ⌜ r ≡ to-at (now (book .entry)) at i ⌝ }
 {
-    byte(book, at, 3 + wide(arity(book, at)) + 2 * wide(i))
+    byte(book, at, pair_offset(book, at, i))
 }
 
 // The occurrence that its pair `i` works it out from.
 pub fn from(book: &[u8], at: usize, i: u8) -> u8
     ensures { λ r. ⌜ r ≡ from-at (now (book .entry)) at i ⌝ }
 {
-    byte(book, at, 4 + wide(arity(book, at)) + 2 * wide(i))
+    byte(book, at, pair_offset(book, at, i) + 1)
 }
 
 // The place of the entry after the one at `at`, or 0 where `at` is past the book.
@@ -154,10 +168,10 @@ pub fn next(book: &[u8], at: usize) -> usize
 
 // The same where the sum is known to fit.
 fn step(book: &[u8], at: usize) -> usize
-    requires { ⌜ at ≤ length (now book) + 49152 ⌝ }
-    ensures { λ r. ⌜ (r ≡ next-at (now (book .entry)) at) × (r ≤ at + 768) ⌝ }
+    requires { ⌜ at ≤ length (now book) + max-prods * entry-most ⌝ }
+    ensures { λ r. ⌜ (r ≡ next-at (now (book .entry)) at) × (r ≤ at + entry-most) ⌝ }
 {
-    at + 3 + wide(arity(book, at)) + 2 * wide(pairs(book, at))
+    at + pair_offset(book, at, pairs(book, at))
 }
 
 // The place of the first entry: the trailer points back to it.

@@ -1,10 +1,9 @@
 // The limits that the paper sets on a book and on what is built from it, in one place.
 
-// Bytes of the trailer.
-pub const TRAILER: usize = 12;
-
-// Its fields, two bytes each.
+// Fields of the trailer, and its bytes, two for each.
 pub const FIELDS: usize = 6;
+
+pub const TRAILER: usize = 2 * FIELDS;
 
 // The edition that this reader knows.
 pub const EDITION: u16 = 1;

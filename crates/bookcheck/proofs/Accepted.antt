@@ -11,7 +11,7 @@ use borrow.Author.Tests.{lt-ltb}
 use Rattle.lists.specs.Refusals.{accepted}
 use Rattle.chains.specs.Limits.{max-settings, max-kids, max-kinds, max-prods}
 use Rattle.chains.specs.Grammar.{Occ, Tie, slots, Exists, Target, Named, Tied, Lawful}
-use Rattle.book.specs.Format.{edition, kinds, prods, start, trailer, kind-at, Bit, arity-at, pairs-at, next-at, entry, occ, Laid, grammar}
+use Rattle.book.specs.Format.{trailer-bytes, edition, kinds, prods, start, trailer, kind-at, Bit, arity-at, pairs-at, next-at, entry, occ, Laid, grammar}
 use Rattle.book.specs.Reading.{told, settings-of, mask-of, kid-at, to-at, from-at, pair-at, kind-in, following, Index}
 use Rattle.bookcheck.specs.Refusals.{OutOfRange, Applies, other-edition, out-of-range, not-laid, bad-kind, bad-kids, bad-ties, headless, BookDue}
 use Rattle.bookcheck.specs.Accepted.{Accepted}
@@ -85,7 +85,7 @@ accepted-book b n m d = let e = d .0 in (blameless b (λ n p. d .1 (n, p)), cc, 
 
 -- ── what the accessors read of an accepted book is what its grammar has ──
 module _ {b : List ℕ} (a : Accepted b) where
-  pub whole : 12 ≤ length b
+  pub whole : trailer-bytes ≤ length b
   whole = a .laid .whole
 
   pub told-kinds : told b 1 ≡ kinds b

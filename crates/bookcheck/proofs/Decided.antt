@@ -9,7 +9,7 @@ use native.Mathlib.Omega.{arith}
 use lib.ListN.{length}
 use Rattle.lists.specs.Refusals.{Sooner}
 use Rattle.chains.specs.Grammar.{Occ, Tie, Grammar, slots, width, Exists, Target, order, Rises}
-use Rattle.book.specs.Format.{kinds, prods, trailer, back-to-kinds, back-to-prods, next-at, Walks, Laid}
+use Rattle.book.specs.Format.{trailer-bytes, kinds, prods, trailer, back-to-kinds, back-to-prods, next-at, Walks, Laid}
 
 pub both : {A B : Type 0} → Dec A → Dec B → Dec (A × B)
 both (yes a) (yes b) = yes (a, b)
@@ -38,12 +38,12 @@ walks-decided b (suc n) at e = both (decLe (next-at b at) (trailer b)) (walks-de
 pub laid-decided : (b : List ℕ) → Dec (Laid b)
 laid-decided b =
     parts
-    (both (decLe 12 (length b))
+    (both (decLe trailer-bytes (length b))
     (both (ℕ-discrete (back-to-kinds b) (trailer b))
     (both (ℕ-discrete (back-to-prods b + 2 * kinds b) (trailer b)) (walks-decided b (prods b) (trailer b - back-to-prods b) (trailer b)))))
   where
     parts : Dec
-        ((12 ≤ length b)
+        ((trailer-bytes ≤ length b)
         × ((back-to-kinds b ≡ trailer b)
         × ((back-to-prods b + 2 * kinds b ≡ trailer b) × Walks b (prods b) (trailer b - back-to-prods b) (trailer b))))
         → Dec (Laid b)

@@ -10,15 +10,15 @@ use native.Mathlib.Omega.{arith}
 use lib.ListN.{length, getD}
 use borrow.Author.Tests.{le-ltb}
 use Rattle.chains.specs.Limits.{max-kinds, max-prods}
-use Rattle.book.specs.Format.{trailer, field, kinds, prods, start, back-to-kinds, back-to-prods, kind-at, Bit, next-at, entry, grammar, Walks, Laid}
+use Rattle.book.specs.Format.{trailer-bytes, trailer, field, kinds, prods, start, back-to-kinds, back-to-prods, kind-at, Bit, next-at, entry, grammar, Walks, Laid}
 use Rattle.book.specs.Reading.{told, settings-of, mask-of, following}
 use Rattle.bookcheck.specs.Refusals.{OutOfRange}
 use Rattle.bookcheck.specs.Search.{Tells}
 use Rattle.book.proofs.Bytes.{following-is}
 use Rattle.book.proofs.Places.{entry-first}
 
-pub told-is : (b : List ℕ) (i : ℕ) → 12 ≤ length b → told b i ≡ field b i
-told-is b i h = rw (le-ltb (length b) 12 h)
+pub told-is : (b : List ℕ) (i : ℕ) → trailer-bytes ≤ length b → told b i ≡ field b i
+told-is b i h = rw (le-ltb (length b) trailer-bytes h)
 
 module _ {b : List ℕ} (l : Laid b) where
   pub kind-front : (k : ℕ) → kind-at b k ≡ 2 * k
@@ -85,7 +85,7 @@ walks-more : (b : List ℕ) (rest here e : ℕ) → 0 < rest
 walks-more b zero here e h = absurd (omega arith)
 walks-more b (suc rest) here e h = let k : suc rest - 1 ≡ rest = omega arith in rw k (λ w. w, λ w. w)
 
-module _ {b : List ℕ} {n at rest here next : ℕ} (t : Treading b n at rest here) (l : 0 < rest) (f : next ≡ following b here) (whole : 12 ≤ length b) where
+module _ {b : List ℕ} {n at rest here next : ℕ} (t : Treading b n at rest here) (l : 0 < rest) (f : next ≡ following b here) (whole : trailer-bytes ≤ length b) where
   e : next ≡ next-at b here
   e = following-is b here f (omega (arith, t .near))
 
@@ -113,7 +113,7 @@ module _ {b : List ℕ} {n at rest here : ℕ} (t : Treading b n at rest here) (
 
 -- with both distances right, the walk decides
 pub laid-by-walk : (b : List ℕ) (n at : ℕ) {r : Bool} → Tells (Walks b n at (trailer b)) r → n ≡ prods b → at ≡ trailer b - back-to-prods b
-    → 12 ≤ length b → back-to-kinds b ≡ trailer b → back-to-prods b + 2 * kinds b ≡ trailer b → Tells (Laid b) r
+    → trailer-bytes ≤ length b → back-to-kinds b ≡ trailer b → back-to-prods b + 2 * kinds b ≡ trailer b → Tells (Laid b) r
 laid-by-walk b n at tells en ea w f t = record {
   holds = λ e. record { whole = w; from-front = f; then-prods = t; to-trailer = subst₂ (λ i j. Walks b i j (trailer b)) en ea (tells .holds e) };
   fails = λ e l. tells .fails e (subst₂ (λ i j. Walks b i j (trailer b)) (sym en) (sym ea) (l .to-trailer));

@@ -8,7 +8,7 @@ use native.Mathlib.Omega.{arith}
 use lib.ListN.{length}
 use Rattle.lists.specs.Refusals.{accepted, refused, Sooner}
 use Rattle.lists.specs.Sought.{Free}
-use Rattle.book.specs.Format.{edition, kinds, prods, Laid, grammar}
+use Rattle.book.specs.Format.{trailer-bytes, Known, kinds, prods, Laid, grammar}
 use Rattle.bookcheck.specs.Refusals.{OutOfRange, BadKind, BadKids, BadTies, Headless, Applies, short, other-edition, out-of-range, not-laid, bad-kind, bad-kids, bad-ties, headless, turn, BookDue}
 
 -- the first of some rows, or one of the others
@@ -20,8 +20,8 @@ Else P rest (suc n) = rest n
 abbrev Says : List ℕ → ℕ → ℕ → Type 0
 Says b n p =
     Else ⊥
-    (Else ((p ≡ 0) × (length b < 12))
-    (Else ((p ≡ 0) × (edition b ≡ 1 → ⊥))
+    (Else ((p ≡ 0) × (length b < trailer-bytes))
+    (Else ((p ≡ 0) × (Known b → ⊥))
     (Else ((p ≡ 0) × OutOfRange b)
     (Else ((p ≡ 0) × (Laid b → ⊥))
     (Else ((p < kinds b) × BadKind (grammar b) p)
@@ -75,17 +75,17 @@ row-of-book (bad-ties p l h) = omega arith
 row-of-book (headless k l h) = omega arith
 
 module _ (b : List ℕ) where
-  pub due-1 : length b < 12 → BookDue b (refused 1 0)
+  pub due-1 : length b < trailer-bytes → BookDue b (refused 1 0)
   due-1 h = due-refused b 1 0 (clear-first b) (short h) (λ q l a. omega arith)
 
-  module _ (h1 : 12 ≤ length b) where
+  module _ (h1 : trailer-bytes ≤ length b) where
     clear-1 : Clear b 2
     clear-1 = clear-next b 1 (clear-first b) (λ q a. let s = says a in omega arith)
 
-    pub due-2 : (edition b ≡ 1 → ⊥) → BookDue b (refused 2 0)
+    pub due-2 : (Known b → ⊥) → BookDue b (refused 2 0)
     due-2 h = due-refused b 2 0 clear-1 (other-edition h) (λ q l a. omega arith)
 
-    module _ (h2 : edition b ≡ 1) where
+    module _ (h2 : Known b) where
       clear-2 : Clear b 3
       clear-2 = clear-next b 2 clear-1 (λ q a. says a .1 h2)
 

@@ -4,10 +4,10 @@ use mathlib.Core.List.{List}
 use Prim.Native.Nat.{ℕ, _≤_}
 use Rattle.chains.specs.Limits.{max-kinds, max-prods}
 use Rattle.chains.specs.Grammar.{Lawful}
-use Rattle.book.specs.Format.{edition, kinds, prods, Laid, grammar}
+use Rattle.book.specs.Format.{Known, kinds, prods, Laid, grammar}
 
 pub record Accepted (b : List ℕ) : Type 0 where
-  pub known : edition b ≡ 1
+  pub known : Known b
   pub some-kinds : 1 ≤ kinds b
   pub few-kinds : kinds b ≤ max-kinds
   pub some-prods : 1 ≤ prods b

@@ -8,7 +8,7 @@ use lib.ListN.{length, getD}
 use Rattle.lists.specs.Refusals.{Said, accepted, refused, Due}
 use Rattle.chains.specs.Limits.{max-kinds, max-prods, max-settings, max-kids}
 use Rattle.chains.specs.Grammar.{Occ, Tie, Grammar, Exists, Target, Rises}
-use Rattle.book.specs.Format.{edition, kinds, prods, start, Laid, grammar}
+use Rattle.book.specs.Format.{trailer-bytes, Known, kinds, prods, start, Laid, grammar}
 
 -- N, P or the start is outside its range
 abbrev pub OutOfRange : List ℕ → Type 0
@@ -36,8 +36,8 @@ Headless G k = (p : ℕ) → p < G .prods → G .left p ≡ k → ⊥
 
 -- Applies b n p: refusal n has its condition met at the place p
 pub data Applies (b : List ℕ) : ℕ → ℕ → Type 0 where
-  short : length b < 12 → Applies b 1 0
-  other-edition : (edition b ≡ 1 → ⊥) → Applies b 2 0
+  short : length b < trailer-bytes → Applies b 1 0
+  other-edition : (Known b → ⊥) → Applies b 2 0
   out-of-range : OutOfRange b → Applies b 3 0
   not-laid : (Laid b → ⊥) → Applies b 4 0
   bad-kind : (k : ℕ) → k < kinds b → BadKind (grammar b) k → Applies b 5 k

@@ -8,7 +8,7 @@ use Rattle.lists.specs.Sought.{Free}
 use Rattle.lists.specs.Refusals.{Sooner}
 use Rattle.chains.specs.Limits.{max-kinds}
 use Rattle.chains.specs.Grammar.{Grammar, Exists, Target, order}
-use Rattle.book.specs.Format.{edition, kinds, prods, start, trailer, left-at, kids-at, pairs-at, bytes-at, ties-of, next-at, entry, Laid, grammar}
+use Rattle.book.specs.Format.{Known, kinds, prods, start, trailer, left-at, kids-at, pairs-at, bytes-at, ties-of, next-at, entry, Laid, grammar}
 use Rattle.book.specs.Reading.{pair-at}
 use Rattle.bookcheck.specs.Refusals.{OutOfRange, BadKids, BadTies}
 use Rattle.bookcheck.specs.declared.walk.Row.{Row}
@@ -75,7 +75,7 @@ pub record Marks (b : List ℕ) (m : ℕ) (marks : List ℕ) : Type 0 where
 
 -- what refusals 1 to 4 leave, with the trailer's three numbers
 pub record Opened (b : List ℕ) (n m first : ℕ) : Type 0 where
-  pub known : edition b ≡ 1
+  pub known : Known b
   pub in-range : OutOfRange b → ⊥
   pub told : TrailerTold b n first
   pub prods-told : m ≡ prods b

@@ -2,6 +2,7 @@
 ghost use mathlib.Core.Path.{_≡_};
 ghost use Prim.Native.Nat.{_≤_};
 ghost use Rattle.lists.specs.Sought.{Free};
+ghost use Rattle.chains.specs.Limits.{max-kinds};
 ghost use Rattle.book.specs.Format.{prods, kinds, grammar, Laid};
 ghost use Rattle.bookcheck.specs.Refusals.{BadKids, Headless};
 ghost use Rattle.bookcheck.specs.Search.{Finds, Marks, Markable};
@@ -29,7 +30,7 @@ fn marks(book: &[u8], m: u8) -> [u8; MAX_KINDS as usize]
 
 // The first of the `n` kinds that has no production, or `n`.
 pub fn first_headless(book: &[u8], n: u8, m: u8) -> u8
-    requires { ⌜ Markable (now book) m × (n ≤ 32) ⌝ }
+    requires { ⌜ Markable (now book) m × (n ≤ max-kinds) ⌝ }
     ensures { λ r. ⌜ Finds (Headless (grammar (now (book .entry)))) n r ⌝ }
 {
     let seen = marks(book, m);

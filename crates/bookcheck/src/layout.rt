@@ -2,7 +2,7 @@
 ghost use mathlib.Core.Path.{_≡_};
 ghost use Prim.Native.Nat.{_≤_};
 ghost use lib.ListN.{length};
-ghost use Rattle.book.specs.Format.{trailer, Walks, Laid};
+ghost use Rattle.book.specs.Format.{trailer-bytes, trailer, Walks, Laid};
 ghost use Rattle.bookcheck.specs.Refusals.{OutOfRange};
 ghost use Rattle.bookcheck.specs.Search.{Tells};
 use super::span;
@@ -16,7 +16,7 @@ use book::productions;
 use book::start;
 
 pub fn out_of_range(book: &[u8]) -> bool
-    requires { ⌜ 12 ≤ length (now book) ⌝ }
+    requires { ⌜ trailer-bytes ≤ length (now book) ⌝ }
     ensures { λ r. ⌜ Tells (OutOfRange (now (book .entry))) r ⌝ }
 {
     let n = kinds(book);
@@ -38,7 +38,7 @@ pub fn out_of_range(book: &[u8]) -> bool
 
 // Whether `n` entries from `at` on end exactly at the trailer, none running past it.
 fn walks(book: &[u8], n: u16, at: usize) -> bool
-    requires { ⌜ (12 ≤ length (now book)) × (at ≤ trailer (now book)) ⌝ }
+    requires { ⌜ (trailer-bytes ≤ length (now book)) × (at ≤ trailer (now book)) ⌝ }
     ensures { λ r. ⌜ Tells (Walks (now (book .entry)) n at (trailer (now (book .entry)))) r ⌝ }
 {
     let end = book.len() - TRAILER;
@@ -56,7 +56,7 @@ fn walks(book: &[u8], n: u16, at: usize) -> bool
 
 // Whether both distances are right and the entries fill what lies between.
 pub fn is_laid(book: &[u8]) -> bool
-    requires { ⌜ 12 ≤ length (now book) ⌝ }
+    requires { ⌜ trailer-bytes ≤ length (now book) ⌝ }
     ensures { λ r. ⌜ Tells (Laid (now (book .entry))) r ⌝ }
 {
     let end = book.len() - TRAILER;

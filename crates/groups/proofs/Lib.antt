@@ -1,1 +1,5 @@
 pub mod Cutting
+pub mod Adding
+pub mod Printing
+pub mod Measuring
+pub mod Answering

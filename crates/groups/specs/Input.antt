@@ -3,11 +3,9 @@ use Prim.Native.Nat.{ℕ, _+_, _*_, _<_}
 use mathlib.Core.Path.{_≡_}
 use mathlib.Core.List.{List}
 use lib.ListN.{length, getD}
+use Rattle.groups.specs.Room.{most-input}
 use Rattle.groups.specs.declared.input.Parts.{Parts}
 use Rattle.groups.specs.declared.input.Parts.the-variants.{Sheet, Refused}
-
-abbrev pub most-input : ℕ
-most-input = 37262
 
 abbrev pub sheet-length : List ℕ → ℕ
 sheet-length input = getD input 0 0 + 256 * getD input 1 0

@@ -2,9 +2,19 @@
 ghost use Prim.Native.Nat.{_<_};
 ghost use mathlib.Core.Path.{_≡_};
 ghost use Rattle.groups.specs.Input.{Cuts};
+use book::limits::MAX_CHILDREN;
+use book::limits::MAX_KINDS;
+use book::limits::MAX_PRODUCTIONS;
+use book::limits::TRAILER;
+use sheet::limits::MAX_NODES;
+
+// Bytes of the largest book: its kinds, its productions with all children and all pairs that a byte can count, its trailer.
+const MOST_BOOK: usize = 2 * MAX_KINDS as usize
+    + MAX_PRODUCTIONS as usize * (3 + MAX_CHILDREN as usize + 2 * 255)
+    + TRAILER;
 
 // The largest input: two bytes of length, a sheet and a book.
-pub const MOST: usize = 37262;
+pub const MOST: usize = 2 + MAX_NODES + MOST_BOOK;
 
 pub enum Parts {
     Sheet { end: usize },

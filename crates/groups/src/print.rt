@@ -1,36 +1,52 @@
-// What the program prints: a refusal, or a line of totals and a line for each node.
-ghost use Prim.Native.Nat.{_<_, _≤_};
+// What the program prints, built in a buffer: a refusal, or a line of totals and a line for each node.
+ghost use Prim.Native.Nat.{_+_, _*_, _<_, _≤_};
+ghost use mathlib.Core.Path.{_≡_};
+ghost use mathlib.Core.List.{[], _∷_};
 ghost use lib.ListN.{length};
+ghost use Rattle.lists.specs.Refusals.{accepted};
+ghost use Rattle.book.specs.Format.{prods, grammar};
+ghost use Rattle.book.specs.Reading.{Index};
+ghost use Rattle.bookcheck.specs.Accepted.{Accepted};
+ghost use Rattle.numbering.specs.Promise.{lent};
+ghost use Rattle.text.specs.Decimals.{decimals};
+ghost use Rattle.groups.specs.Printed.{blank, line-end, refusal, totals, place-of, printed};
+ghost use Rattle.groups.specs.Printed.{numbers as Printed·numbers, line as Printed·line, lines as Printed·lines};
+ghost use Rattle.groups.specs.Adding.{Adds, Holds, Printable, most-text};
 use book::limits::MAX_PRODUCTIONS;
-use libc::STDOUT_FILENO;
 
-// Bytes that gather before they are written.
-const ROOM: usize = 16384;
+// A node's three places.
+const PLAUSIBLE: usize = 0;
 
-fn number(out: &mut [u8], held: usize, n: u64) -> usize {
-    text::decimal(STDOUT_FILENO, out, held, n)
-}
+const FEASIBLE: usize = 1;
+
+const ENTRY: usize = 2;
 
 // A number after a blank.
-fn next_number(out: &mut [u8], held: usize, n: u64) -> usize {
-    let h = text::word(STDOUT_FILENO, out, held, b" ");
-    number(out, h, n)
+fn next_number(out: &mut [u8], held: usize, n: u64) -> usize
+    ensures { λ r. ⌜ Adds (now (out .entry)) held (blank ∷ decimals n) (now (out .exit)) r ⌝ }
+{
+    let h = text::add(out, held, b" ");
+    text::add_decimal(out, h, n)
 }
 
-fn line_end(out: &mut [u8], held: usize) -> usize {
-    text::word(STDOUT_FILENO, out, held, b"\n")
+fn end_line(out: &mut [u8], held: usize) -> usize
+    ensures { λ r. ⌜ Adds (now (out .entry)) held line-end (now (out .exit)) r ⌝ }
+{
+    text::add(out, held, b"\n")
 }
 
-pub fn refused(number: u8, place: u16) {
-    let mut out = [0u8; 64];
-    let h = text::word(STDOUT_FILENO, &mut out, 0, b"refused");
-    let h = next_number(&mut out, h, number as u64);
-    let h = next_number(&mut out, h, place as u64);
-    let h = line_end(&mut out, h);
-    text::flush(STDOUT_FILENO, &out, h);
+pub fn refused(out: &mut [u8], number: u8, place: u16) -> usize
+    requires { ⌜ most-text ≤ length (now out) ⌝ }
+    ensures { λ r. ⌜ Holds (now (out .exit)) r (refusal number place) ⌝ }
+{
+    let h = text::add(out, 0, b"refused");
+    let h = next_number(out, h, number as u64);
+    let h = next_number(out, h, place as u64);
+    end_line(out, h)
 }
 
 pub fn accepted(
+    out: &mut [u8],
     book: &[u8],
     sheet: &[u8],
     nodes: &[u64],
@@ -38,15 +54,23 @@ pub fn accepted(
     n: u16,
     settings: u16,
     g: u16,
-) {
-    let mut out = [0u8; ROOM];
-    let h = text::word(STDOUT_FILENO, &mut out, 0, b"ok");
-    let h = next_number(&mut out, h, n as u64);
-    let h = next_number(&mut out, h, settings as u64);
-    let h = next_number(&mut out, h, g as u64);
-    let h = line_end(&mut out, h);
-    let h = lines(&mut out, h, book, sheet, nodes, groups);
-    text::flush(STDOUT_FILENO, &out, h);
+) -> usize
+    requires { ⌜ (most-text ≤ length (now out)) × Printable (now book) (now sheet) (lent (now nodes) (now groups)) ⌝ }
+    ensures { λ r. ⌜ Holds (now (out .exit)) r
+        (printed (now (book .entry)) (now (sheet .entry)) (accepted (n ∷ settings ∷ g ∷ [])) (lent (now (nodes .entry)) (now (groups .entry)))) ⌝ }
+{
+    let h = first_line(out, n, settings, g);
+    lines(out, h, book, sheet, nodes, groups)
+}
+
+fn first_line(out: &mut [u8], n: u16, settings: u16, g: u16) -> usize
+    ensures { λ r. ⌜ Adds (now (out .entry)) 0 (totals (n ∷ settings ∷ g ∷ [])) (now (out .exit)) r ⌝ }
+{
+    let h = text::add(out, 0, b"ok");
+    let h = next_number(out, h, n as u64);
+    let h = next_number(out, h, settings as u64);
+    let h = next_number(out, h, g as u64);
+    end_line(out, h)
 }
 
 // A line for each node of the sheet.
@@ -57,13 +81,18 @@ fn lines(
     sheet: &[u8],
     nodes: &[u64],
     groups: &[u16],
-) -> usize {
+) -> usize
+    requires { ⌜ Printable (now book) (now sheet) (lent (now nodes) (now groups)) ⌝ }
+    ensures { λ r. ⌜ Adds (now (out .entry)) held
+        (Printed·lines (grammar (now (book .entry))) (now (sheet .entry)) (lent (now (nodes .entry)) (now (groups .entry))) (length (now (sheet .entry))))
+        (now (out .exit)) r ⌝ }
+{
     let places = book::index(book);
     let mut h = held;
     let mut next = 0;
     let mut i = 0;
     while i < sheet.len() {
-        let end = group_end(groups, next, settings(book, &places, sheet[i]));
+        let end = next + settings(book, &places, sheet[i]);
         h = line(out, h, i, sheet[i], nodes, &groups[next..end]);
         next = end;
         i += 1;
@@ -79,21 +108,30 @@ fn line(
     production: u8,
     nodes: &[u64],
     groups: &[u16],
-) -> usize {
-    let h = number(out, held, i as u64);
+) -> usize
+    requires { ⌜ 3 * i + 2 < length (now nodes) ⌝ }
+    ensures { λ r. ⌜ Adds (now (out .entry)) held
+        (Printed·line i production (place-of (now (nodes .entry)) i 0) (place-of (now (nodes .entry)) i 1) (place-of (now (nodes .entry)) i 2) (now (groups .entry)))
+        (now (out .exit)) r ⌝ }
+{
+    let h = text::add_decimal(out, held, i as u64);
     let h = next_number(out, h, production as u64);
-    let h = next_number(out, h, told(nodes, i, 0));
-    let h = next_number(out, h, told(nodes, i, 1));
-    let h = next_number(out, h, told(nodes, i, 2));
+    let h = next_number(out, h, nodes[3 * i + PLAUSIBLE]);
+    let h = next_number(out, h, nodes[3 * i + FEASIBLE]);
+    let h = next_number(out, h, nodes[3 * i + ENTRY]);
     let h = numbers(out, h, groups);
-    line_end(out, h)
+    end_line(out, h)
 }
 
-fn group(out: &mut [u8], held: usize, number: u16) -> usize {
+fn group(out: &mut [u8], held: usize, number: u16) -> usize
+    ensures { λ r. ⌜ Adds (now (out .entry)) held (blank ∷ decimals number) (now (out .exit)) r ⌝ }
+{
     next_number(out, held, number as u64)
 }
 
-fn numbers(out: &mut [u8], held: usize, groups: &[u16]) -> usize {
+fn numbers(out: &mut [u8], held: usize, groups: &[u16]) -> usize
+    ensures { λ r. ⌜ Adds (now (out .entry)) held (Printed·numbers (now (groups .entry))) (now (out .exit)) r ⌝ }
+{
     let mut h = held;
     let mut i = 0;
     while i < groups.len() {
@@ -103,35 +141,10 @@ fn numbers(out: &mut [u8], held: usize, groups: &[u16]) -> usize {
     h
 }
 
-// Place j of a node's three.
-fn told(nodes: &[u64], i: usize, j: usize) -> u64
-    requires { ⌜ j < 3 ⌝ }
-{
-    if i < nodes.len() / 3 {
-        nodes[3 * i + j]
-    } else {
-        0
-    }
-}
-
 // The settings of a production's left kind.
-fn settings(book: &[u8], places: &[usize; MAX_PRODUCTIONS as usize], production: u8) -> usize {
-    let p = production as usize;
-    if p < MAX_PRODUCTIONS as usize {
-        book::settings(book, book::left(book, places[p])) as usize
-    } else {
-        0
-    }
-}
-
-// Where the group numbers of a node end that begin at `from`.
-fn group_end(groups: &[u16], from: usize, more: usize) -> usize
-    requires { ⌜ from ≤ length (now groups) ⌝ }
-    ensures { λ r. ⌜ (from ≤ r) × (r ≤ length (now (groups .entry))) ⌝ }
+fn settings(book: &[u8], places: &[usize; MAX_PRODUCTIONS as usize], production: u8) -> usize
+    requires { ⌜ Accepted (now book) × Index (now book) (now places) × (production < prods (now book)) ⌝ }
+    ensures { λ r. ⌜ r ≡ grammar (now (book .entry)) .settings (grammar (now (book .entry)) .left production) ⌝ }
 {
-    if groups.len() - from < more {
-        groups.len()
-    } else {
-        from + more
-    }
+    book::settings(book, book::left(book, places[production as usize])) as usize
 }

@@ -1,4 +1,4 @@
-// The room that the program has for a vehicle, in elements.
+// The room that the program has for a vehicle, in elements. What is lent has exactly these (specs/Room.antt).
 
 // Sets and counts for every kind that a book can have.
 pub const KINDS: usize = book::limits::MAX_KINDS as usize;
@@ -18,3 +18,10 @@ pub const NODE_PLACES: usize = 3 * NODES;
 
 // As many places for each node as a kind can have settings.
 pub const GROUP_PLACES: usize = book::limits::MAX_SETTINGS as usize * NODES;
+
+// Bytes of the longest first line, of a node's longest line, and of the longest text.
+const TOTALS: usize = 21;
+
+const LINE: usize = 120;
+
+pub const TEXT: usize = TOTALS + LINE * NODES;

@@ -122,11 +122,6 @@ pinned P l m r q f g f′ g′ = rising-once l m r q (λ y k. g′ y (f y k)) (�
 not-later : {y : ℕ} {l : List ℕ} → Rising (y ∷ l) → List·Memᴰ y l → ⊥
 not-later {y} {l} r m = let h = least y l r m in omega arith
 
--- one that is there already changes nothing
-pub insert-old : (x : ℕ) (l : List ℕ) → Rising l → List·Memᴰ x l → insert x l ≡ l
-insert-old x l r m =
-    rising-once (insert x l) l (insert-rising x l r) r (λ y k. ⊎-elim (λ e. Memᴰ·cast e m) (λ j. j) (insert-mem x l k)) (λ y k. insert-keeps x l k)
-
 -- a new one makes the list longer by one
 pub insert-new : (x : ℕ) (l : List ℕ) → Rising l → (List·Memᴰ x l → ⊥) → length (insert x l) ≡ suc (length l)
 insert-new x [] r n = rw insert-nil

@@ -13,8 +13,7 @@ use Rattle.lists.proofs.Parts.{place-this, place-before, place-after}
 use Rattle.chains.specs.Limits.{max-kids, max-settings, max-nodes}
 use Rattle.chains.specs.Grammar.{Grammar}
 use Rattle.book.specs.Format.{grammar, prods, kinds}
-use Rattle.book.specs.Reading as book
-use Rattle.book.specs.Reading.{kid-at}
+use Rattle.book.specs.Reading.{kid-at, settings-of}
 use Rattle.bookcheck.specs.Accepted.{Accepted}
 use Rattle.bookcheck.proofs.Accepted.{settings-read}
 use Rattle.sheet.specs.Reading.{all-settings}
@@ -166,13 +165,13 @@ module _ {b l w : List ℕ} {e p at kids : ℕ} {ends firsts : List ℕ} {i s fi
     there = omega (arith, n .stands, n .kinds-are .there j here)
 
     -- the child's width, and where its settings stand
-    pub naming-width : {x width : ℕ} → x ≡ kid-at b at j → width ≡ book.all-settings b x → width ≡ grammar b .settings (getD (grammar b .kids p) j 0)
+    pub naming-width : {x width : ℕ} → x ≡ kid-at b at j → width ≡ settings-of b x → width ≡ grammar b .settings (getD (grammar b .kids p) j 0)
     naming-width {x} ex ew = ew ∙ settings-read (n .opened .accepted) x ∙ ap (λ y. grammar b .settings y) (kid-is (n .opened) j more ex)
 
     same-kind : grammar b .settings (grammar b .left (getD l child 0)) ≡ grammar b .settings (getD (grammar b .kids p) j 0)
     same-kind = ap (λ y. grammar b .settings y) (ap (λ y. grammar b .left (getD l y 0)) (n .stands) ∙ n .kinds-are .kind j here)
 
-    module _ {x width place-of : ℕ} (ex : x ≡ kid-at b at j) (ew : width ≡ book.all-settings b x) (ep : place-of ≡ getD firsts child 0) where
+    module _ {x width place-of : ℕ} (ex : x ≡ kid-at b at j) (ew : width ≡ settings-of b x) (ep : place-of ≡ getD firsts child 0) where
       placed : place-of ≡ all-settings (grammar b) (take child l)
       placed = ep ∙ n .places-are .each child there
 

@@ -6,6 +6,7 @@ pub mod Labelled
 pub mod Visits
 pub mod Journey
 pub mod Building
+pub mod Keeping
 pub mod Children
 pub mod Products
 pub mod Holders

@@ -17,6 +17,7 @@ use Rattle.admission.specs.declared.Admission.{Admission}
 use Rattle.admission.specs.declared.Admission.the-variants.{Admitted, Refused}
 use Rattle.numbering.specs.Walk.{Tables, tables}
 use Rattle.numbering.specs.Promise.{Lent, lent, BigCount, Grouped, CallDue}
+use Rattle.numbering.specs.KeptRanks.{plausible-ranks, feasible-ranks}
 use Rattle.numbering.specs.Parts.{Indexed, ChoiceIs, Choice}
 use Rattle.numbering.specs.Giving.{Walkable, Filled}
 use Rattle.numbering.specs.Admitting.{measures, Clear}
@@ -47,27 +48,27 @@ module _ {b l c d u w : List ℕ} {m : Lent} (clear : Clear b l (tables c d u w)
   pub settled-big : r ≡ true → {s : Said} → s ≡ refused 25 0 → CallDue b l (tables c d u w) m s m
   settled-big e es = due-said b l (tables c d u w) m m es (refuses-big clear (tells .holds e), refl)
 
-  module _ (small : r ≡ false) {plausible ends feasible entries : List ℕ} {o : Reads} (choice : Choice b l c d u w plausible ends feasible entries o) where
+  module _ (small : r ≡ false) {kept ends entries : List ℕ} {o : Reads} (choice : Choice b l c d u w kept ends entries o) where
     pub settled-bad : {p : ℕ} → o ≡ Bad p → {s : Said} → s ≡ refused 25 p → CallDue b l (tables c d u w) m s m
     settled-bad {p} e es =
         let t = tree-of (clear .fits) in
-        let (turn, bad, first) = subst (ChoiceIs (grammar b) (tables c d u w) (t .tree) plausible ends feasible entries) e (choice .case t) in
+        let (turn, bad, first) = subst (ChoiceIs (grammar b) (tables c d u w) (t .tree) (plausible-ranks kept) ends (feasible-ranks kept) entries) e (choice .case t) in
         due-said b l (tables c d u w) m m es (refuses-read clear (tells .fails small) t p turn bad first, refl)
 
     pub settled-walkable : o ≡ All → Walkable b l w ends entries
     settled-walkable e =
         let t = tree-of (clear .fits) in
-        let (none, chosen) = subst (ChoiceIs (grammar b) (tables c d u w) (t .tree) plausible ends feasible entries) e (choice .case t) in
+        let (none, chosen) = subst (ChoiceIs (grammar b) (tables c d u w) (t .tree) (plausible-ranks kept) ends (feasible-ranks kept) entries) e (choice .case t) in
         record { tree-of = t; ended = chosen .ended; counts = c; feasible-counts = d; up = u; entered = chosen .entered }
 
 -- everything is written
 pub settled-well : {b l c d u w n g : List ℕ} → Clear b l (tables c d u w) (lent n g) → {r : Bool} → Tells (BigCount (grammar b) (tables c d [] [])) r → r ≡ false
-    → {plausible ends feasible entries : List ℕ} {o : Reads} → Choice b l c d u w plausible ends feasible entries o → o ≡ All
+    → {kept ends entries : List ℕ} {o : Reads} → Choice b l c d u w kept ends entries o → o ≡ All
     → {count settings : ℕ} → count ≡ length l → settings ≡ all-settings (grammar b) l
-    → {n′ g′ : List ℕ} {used : ℕ} → Filled b l w plausible ends feasible entries n g n′ g′ used
+    → {n′ g′ : List ℕ} {used : ℕ} → Filled b l w (plausible-ranks kept) ends (feasible-ranks kept) entries n g n′ g′ used
     → {s : Said} → s ≡ accepted (count ∷ settings ∷ used ∷ []) → CallDue b l (tables c d u w) (lent n g) s (lent n′ g′)
-settled-well {b} {l} {c} {d} {u} {w} {n} {g} clear tells small {plausible} {ends} {feasible} {entries} choice e en es {n′} {g′} {used} filled said =
+settled-well {b} {l} {c} {d} {u} {w} {n} {g} clear tells small {kept} {ends} {entries} choice e en es {n′} {g′} {used} filled said =
     let t = tree-of (clear .fits) in
-    let (none, chosen) = subst (ChoiceIs (grammar b) (tables c d u w) (t .tree) plausible ends feasible entries) e (choice .case t) in
+    let (none, chosen) = subst (ChoiceIs (grammar b) (tables c d u w) (t .tree) (plausible-ranks kept) ends (feasible-ranks kept) entries) e (choice .case t) in
     let counts = ap₂ (λ (x y : ℕ). x ∷ y ∷ used ∷ []) en es in
     due-said b l (tables c d u w) (lent n g) (lent n′ g′) said (nothing-applies clear (tells .fails small) t none, subst (Grouped (grammar b) l (tables c d u w) (lent n g) (lent n′ g′)) (sym counts) (filled .all t c d u chosen))

@@ -1,6 +1,7 @@
 -- The upward reads: what is read at a node, and from the last node to the first.
-use mathlib.Core.Path.{_≡_, refl, sym, ap, subst, _∙_}
+use mathlib.Core.Path.{_≡_, refl, sym, ap, ap₂, subst, _∙_}
 use mathlib.Core.Logic.{_⊎_, inl, inr}
+use mathlib.Core.Bool.{Bool, true}
 use mathlib.Core.List.{List, [], _∷_}
 use Prim.Native.Nat.{ℕ, zero, suc, _+_, _-_, _≤_, _<_}
 use native.Mathlib.Decide.{ℕ-discrete}
@@ -22,9 +23,11 @@ use Rattle.ranks.proofs.Padded.{up-number-is}
 use Rattle.numbering.specs.Walk.{Tables, tables, ranks}
 use Rattle.numbering.specs.Promise.{TreeOf, BadUp}
 use Rattle.numbering.specs.Visits.{rank-of}
+use Rattle.numbering.specs.KeptRanks.{room, plausible-ranks, KeptPlausible}
 use Rattle.numbering.specs.Parts.{Sheeted, Children, Kindred, Ended, Ranked, NoBadUp, UpReads}
 use Rattle.numbering.specs.declared.upward.Reads.{Reads}
 use Rattle.numbering.specs.declared.upward.Reads.the-variants.{All, Bad}
+use Rattle.numbering.proofs.Keeping.{plausible-long}
 use Rattle.numbering.proofs.Children.{Opened}
 use Rattle.numbering.proofs.Standing.{children-of, ended-below, ranked-below, kin-long, kin-padded, kin-end}
 use Rattle.numbering.proofs.Trees.{tree-size, Node, node-at}
@@ -89,19 +92,19 @@ module _ {b c u plausible ends : List ℕ} {i p start : ℕ} {ns rs : List ℕ} 
 
 -- ── from the last node to the first ──
 -- nodes from i on have been read
-pub record UpGoing (b l c u plausible ends : List ℕ) (i : ℕ) : Type 0 where
+pub record UpGoing (b l c u kept ends : List ℕ) (i : ℕ) : Type 0 where
   pub within : i ≤ length l
-  pub plausible-long : length plausible ≡ max-nodes
+  pub kept-long : length kept ≡ room
   pub ends-long : length ends ≡ max-nodes
   pub few : length l ≤ max-nodes
   pub read-so-far : (t : TreeOf (grammar b) l) (d w : List ℕ)
-      → NoBadUp (grammar b) (tables c d u w) (t .tree) i × Ranked (grammar b) (tables c d u w) (t .tree) 0 i plausible × Ended (t .tree) 0 i ends
+      → NoBadUp (grammar b) (tables c d u w) (t .tree) i × Ranked (grammar b) (tables c d u w) (t .tree) 0 i (plausible-ranks kept) × Ended (t .tree) 0 i ends
 
-pub going-none : {b l c u plausible ends : List ℕ} → length l ≤ max-nodes → length plausible ≡ max-nodes → length ends ≡ max-nodes
-    → UpGoing b l c u plausible ends (length l)
-going-none {b} {l} h lp le = record {
+pub going-none : {b l c u kept ends : List ℕ} → length l ≤ max-nodes → length kept ≡ room → length ends ≡ max-nodes
+    → UpGoing b l c u kept ends (length l)
+going-none {b} {l} h lk le = record {
   within = omega arith;
-  plausible-long = lp;
+  kept-long = lk;
   ends-long = le;
   few = h;
   read-so-far = λ t d w. (λ i q ds s k. absurd (beyond t i q ds s k), λ i q ds s k. absurd (beyond t i q ds s k), λ i q ds s k. absurd (beyond t i q ds s k));
@@ -111,7 +114,7 @@ going-none {b} {l} h lp le = record {
     beyond t i q ds s k = omega (arith, sub-in (t .tree) 0 i q ds s .0 .1, tree-size t)
 
 -- the node before is one of the sheet's
-module _ {b l c u plausible ends : List ℕ} {i : ℕ} (g : UpGoing b l c u plausible ends i) (some : 0 < i) where
+module _ {b l c u kept ends : List ℕ} {i : ℕ} (g : UpGoing b l c u kept ends i) (some : 0 < i) where
   pub going-there : i - 1 < length l
   going-there = omega (arith, g .within)
 
@@ -121,7 +124,7 @@ module _ {b l c u plausible ends : List ℕ} {i : ℕ} (g : UpGoing b l c u plau
   pub going-known : TreeOf (grammar b) l → getD l (i - 1) 0 < prods b
   going-known t = node-at t (i - 1) going-there .known
 
-module _ {b l c u plausible ends : List ℕ} {i : ℕ} (g : UpGoing b l c u plausible ends i) (t₀ : TreeOf (grammar b) l) (a : Accepted b) (some : 0 < i) where
+module _ {b l c u kept ends : List ℕ} {i : ℕ} (g : UpGoing b l c u kept ends i) (t₀ : TreeOf (grammar b) l) (a : Accepted b) (some : 0 < i) where
   pub going-children : (p : ℕ) → p ≡ getD l (i - 1) 0 → Children ends (i - 1) (length (grammar b .kids p))
   going-children p e =
       let n = node-at t₀ (i - 1) (going-there g some) in
@@ -132,30 +135,31 @@ module _ {b l c u plausible ends : List ℕ} {i : ℕ} (g : UpGoing b l c u plau
 
   -- the node before
   module _ {p : ℕ} (ep : p ≡ getD l (i - 1) 0) where
-    here : {P : Tables → Bush → Type 0} → UpHere b c u plausible ends (i - 1) p P → (t : TreeOf (grammar b) l) (d w : List ℕ) → (n : Node t (i - 1)) × P (tables c d u w) (n .below)
+    here : {P : Tables → Bush → Type 0} → UpHere b c u (plausible-ranks kept) ends (i - 1) p P → (t : TreeOf (grammar b) l) (d w : List ℕ) → (n : Node t (i - 1)) × P (tables c d u w) (n .below)
     here {P} f t d w =
         let n = node-at t (i - 1) (going-there g some) in
         let so-far = g .read-so-far t d w in
-        let f′ : UpHere b c u plausible ends (i - 1) (getD l (i - 1) 0) P = subst (λ q. UpHere b c u plausible ends (i - 1) q P) ep f in
-        (n, f′ .case d w (n .below) (n .kinded) (ended-below (t .tree) (n .below) (i - 1) (getD l (i - 1) 0) i ends (n .is-node) (omega arith) (so-far .2)) (ranked-below (grammar b) (tables c d u w) (t .tree) (n .below) (i - 1) (getD l (i - 1) 0) i plausible (n .is-node) (omega arith) (so-far .1)))
+        let f′ : UpHere b c u (plausible-ranks kept) ends (i - 1) (getD l (i - 1) 0) P = subst (λ q. UpHere b c u (plausible-ranks kept) ends (i - 1) q P) ep f in
+        (n, f′ .case d w (n .below) (n .kinded) (ended-below (t .tree) (n .below) (i - 1) (getD l (i - 1) 0) i ends (n .is-node) (omega arith) (so-far .2)) (ranked-below (grammar b) (tables c d u w) (t .tree) (n .below) (i - 1) (getD l (i - 1) 0) i (plausible-ranks kept) (n .is-node) (omega arith) (so-far .1)))
 
-    pub going-bad : UpHere b c u plausible ends (i - 1) p (UpBad b p) → UpReads b l c u plausible ends (Bad (i - 1))
-    going-bad f = record {
-      plausible-long = g .plausible-long;
+    pub going-bad : UpHere b c u (plausible-ranks kept) ends (i - 1) p (UpBad b p) → {kept′ : List ℕ} → length kept′ ≡ room → UpReads b l c u kept′ ends (Bad (i - 1))
+    going-bad f long = record {
+      kept-long = long;
       ends-long = g .ends-long;
       case = λ t d w.
           let (n, h) = here f t d w in
           ((getD l (i - 1) 0, n .below, n .is-node, rw (← ep) h), λ m q ds s k. g .read-so-far t d w .0 m q ds s (omega arith));
     }
 
-    module _ {rank end : ℕ} (f : UpHere b c u plausible ends (i - 1) p (UpGood b (i - 1) p rank end)) where
+    module _ {rank end : ℕ} (f : UpHere b c u (plausible-ranks kept) ends (i - 1) p (UpGood b (i - 1) p rank end)) where
       pub going-end : end ≤ max-nodes
       going-end = let (n, h) = here f t₀ [] [] in omega (arith, h .2, n .inside, g .few)
 
-      pub going-turn : {x : ℕ} → x ≡ end → UpGoing b l c u (set plausible (i - 1) rank) (set ends (i - 1) x) (i - 1)
-      going-turn {x} ex = record {
+      pub going-turn : {n x : ℕ} {kept′ : List ℕ} {o : Bool} → KeptPlausible kept (i - 1) rank n kept′ o → o ≡ true → x ≡ end
+          → UpGoing b l c u kept′ (set ends (i - 1) x) (i - 1)
+      going-turn {x = x} {kept′} k eo ex = record {
         within = omega (arith, g .within);
-        plausible-long = length-set plausible (i - 1) rank ∙ g .plausible-long;
+        kept-long = k .long ∙ g .kept-long;
         ends-long = length-set ends (i - 1) x ∙ g .ends-long;
         few = g .few;
         read-so-far = λ t d w. (
@@ -178,11 +182,16 @@ module _ {b l c u plausible ends : List ℕ} {i : ℕ} (g : UpGoing b l c u plau
           still t d w m q ds s k (yes z) = now t d w m q ds s z .0
           still t d w m q ds s k (no z) = g .read-so-far t d w .0 m q ds s (omega arith)
 
+          new : plausible-ranks kept′ ≡ set (plausible-ranks kept) (i - 1) rank
+          new = k .keeps .low eo .1
+
           ranked : (t : TreeOf (grammar b) l) (d w : List ℕ) (m q : ℕ) (ds : Bush) → Sub (t .tree) 0 m q ds → i - 1 ≤ m → Dec (m ≡ i - 1)
-              → getD (set plausible (i - 1) rank) m 0 ≡ rank-of (grammar b) (tables c d u w) q ds
-          ranked t d w m q ds s k (yes z) =
-              ap (λ y. getD (set plausible (i - 1) rank) y 0) z ∙ getD-set-same plausible (i - 1) rank 0 (omega (arith, going-inside g some, g .plausible-long)) ∙ now t d w m q ds s z .1
-          ranked t d w m q ds s k (no z) = getD-set-other plausible (i - 1) m rank 0 z ∙ g .read-so-far t d w .1 m q ds s (omega arith)
+              → getD (plausible-ranks kept′) m 0 ≡ rank-of (grammar b) (tables c d u w) q ds
+          ranked t d w m q ds s z (yes y) =
+              ap₂ (λ (r : List ℕ) (x : ℕ). getD r x 0) new y
+              ∙ getD-set-same (plausible-ranks kept) (i - 1) rank 0 (omega (arith, going-inside g some, plausible-long kept (g .kept-long))) ∙ now t d w m q ds s y .1
+          ranked t d w m q ds s z (no y) =
+              ap (λ (r : List ℕ). getD r m 0) new ∙ getD-set-other (plausible-ranks kept) (i - 1) m rank 0 y ∙ g .read-so-far t d w .1 m q ds s (omega arith)
 
           ended : (t : TreeOf (grammar b) l) (d w : List ℕ) (m q : ℕ) (ds : Bush) → Sub (t .tree) 0 m q ds → i - 1 ≤ m → Dec (m ≡ i - 1)
               → getD (set ends (i - 1) x) m 0 ≡ suc (m + size ds)
@@ -190,9 +199,9 @@ module _ {b l c u plausible ends : List ℕ} {i : ℕ} (g : UpGoing b l c u plau
               ap (λ y. getD (set ends (i - 1) x) y 0) z ∙ getD-set-same ends (i - 1) x 0 (omega (arith, going-inside g some, g .ends-long)) ∙ now t d w m q ds s z .2
           ended t d w m q ds s k (no z) = getD-set-other ends (i - 1) m x 0 z ∙ g .read-so-far t d w .2 m q ds s (omega arith)
 
-pub going-done : {b l c u plausible ends : List ℕ} {i : ℕ} → UpGoing b l c u plausible ends i → i ≤ 0 → UpReads b l c u plausible ends All
+pub going-done : {b l c u kept ends : List ℕ} {i : ℕ} → UpGoing b l c u kept ends i → i ≤ 0 → UpReads b l c u kept ends All
 going-done g h = record {
-  plausible-long = g .plausible-long;
+  kept-long = g .kept-long;
   ends-long = g .ends-long;
   case = λ t d w.
       let so-far = g .read-so-far t d w in

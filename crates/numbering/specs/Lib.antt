@@ -3,6 +3,7 @@ pub mod Promise
 pub mod Answer
 pub mod Places
 pub mod Visits
+pub mod KeptRanks
 pub mod Parts
 pub mod Giving
 pub mod Admitting

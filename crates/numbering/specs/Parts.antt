@@ -17,6 +17,7 @@ use Rattle.ranks.specs.Reads.{child-rank-at}
 use Rattle.numbering.specs.Walk.{Tables, tables, started}
 use Rattle.numbering.specs.Promise.{TreeOf, BadUp, BadRoot, BadDown, entry-at}
 use Rattle.numbering.specs.Visits.{rank-of, entry-in, visit}
+use Rattle.numbering.specs.KeptRanks.{room, plausible-ranks, feasible-ranks, OnlyFeasible}
 use Rattle.numbering.specs.declared.downward.DownNode.{DownNode}
 use Rattle.numbering.specs.declared.downward.DownNode.the-variants as down
 use Rattle.numbering.specs.declared.upward.Reads.{Reads}
@@ -75,10 +76,10 @@ abbrev pub UpIs : Grammar → Tables → Bush → List ℕ → List ℕ → Read
 UpIs G T f plausible ends All = NoBadUp G T f 0 × Ranked G T f 0 0 plausible × Ended f 0 0 ends
 UpIs G T f plausible ends (Bad i) = ((q : ℕ) × (ds : Bush) × Sub f 0 i q ds × BadUp G T q ds) × NoBadUp G T f (suc i)
 
-pub record UpReads (b l c u plausible ends : List ℕ) (r : Reads) : Type 0 where
-  pub plausible-long : length plausible ≡ max-nodes
+pub record UpReads (b l c u kept ends : List ℕ) (r : Reads) : Type 0 where
+  pub kept-long : length kept ≡ room
   pub ends-long : length ends ≡ max-nodes
-  pub case : (t : TreeOf (grammar b) l) (d w : List ℕ) → UpIs (grammar b) (tables c d u w) (t .tree) plausible ends r
+  pub case : (t : TreeOf (grammar b) l) (d w : List ℕ) → UpIs (grammar b) (tables c d u w) (t .tree) (plausible-ranks kept) ends r
 
 -- ── downward ──
 -- whether each child of a node with production p has got its feasible rank from the entry e; F m is the rank that node m is to have
@@ -89,9 +90,9 @@ HandedIs G d w e p ends i s s′ true =
     → ((m : ℕ) → getD s m 0 ≡ F m → getD s′ m 0 ≡ F m) × ((j : ℕ) → j < length (G .kids p) → getD s′ (child-at ends i j) 0 ≡ F (child-at ends i j)))
 HandedIs G d w e p ends i s s′ false = (j : ℕ) × (j < length (G .kids p)) × (getD d (getD (G .kids p) j 0) 0 ≤ child-rank-at w e j)
 
-pub record HandedDown (b d w : List ℕ) (e p : ℕ) (ends : List ℕ) (i : ℕ) (s s′ : List ℕ) (r : Bool) : Type 0 where
-  pub kept : length s′ ≡ length s
-  pub case : HandedIs (grammar b) d w e p ends i s s′ r
+pub record HandedDown (b d w : List ℕ) (e p : ℕ) (ends : List ℕ) (i : ℕ) (kept kept′ : List ℕ) (r : Bool) : Type 0 where
+  pub only : OnlyFeasible kept kept′
+  pub case : HandedIs (grammar b) d w e p ends i (feasible-ranks kept) (feasible-ranks kept′) r
 
 -- node m has the feasible rank that the walk gives it
 abbrev pub RightRank : Grammar → Tables → Bush → List ℕ → ℕ → Type 0
@@ -104,11 +105,11 @@ DownNodeIs G T f i p ends s s′ (down.Entry e) = (e ≡ entry-in G T (visit G T
     × ((j : ℕ) → j < length (G .kids p) → RightRank G T f s′ (child-at ends i j))
 DownNodeIs G T f i p ends s s′ down.Bad = BadDown G T p (entry-in G T (visit G T f i))
 
-pub record DownNodeRead (b c d w plausible ends : List ℕ) (i p : ℕ) (s s′ : List ℕ) (r : DownNode) : Type 0 where
-  pub kept : length s′ ≡ length s
+pub record DownNodeRead (b c d w ends : List ℕ) (i p : ℕ) (kept kept′ : List ℕ) (r : DownNode) : Type 0 where
+  pub only : OnlyFeasible kept kept′
   pub case : (l : List ℕ) (t : TreeOf (grammar b) l) (u : List ℕ) (ds : Bush) → Sub (t .tree) 0 i p ds → Ended (t .tree) 0 0 ends
-      → Ranked (grammar b) (tables c d u w) (t .tree) 0 0 plausible → RightRank (grammar b) (tables c d u w) (t .tree) s i
-      → DownNodeIs (grammar b) (tables c d u w) (t .tree) i p ends s s′ r
+      → Ranked (grammar b) (tables c d u w) (t .tree) 0 0 (plausible-ranks kept) → RightRank (grammar b) (tables c d u w) (t .tree) (feasible-ranks kept) i
+      → DownNodeIs (grammar b) (tables c d u w) (t .tree) i p ends (feasible-ranks kept) (feasible-ranks kept′) r
 
 abbrev pub NoBadDown : Grammar → Tables → Bush → ℕ → Type 0
 NoBadDown G T f k = (i q : ℕ) (ds : Bush) → Sub f 0 i q ds → i < k → BadDown G T q (entry-at G T f i) → ⊥
@@ -118,11 +119,11 @@ DownIs G T f feasible entries All = NoBadDown G T f (size f)
     × ((i : ℕ) → i < size f → RightRank G T f feasible i) × ((i : ℕ) → i < size f → getD entries i 0 ≡ entry-in G T (visit G T f i))
 DownIs G T f feasible entries (Bad i) = ((q : ℕ) × (ds : Bush) × Sub f 0 i q ds × BadDown G T q (entry-at G T f i)) × NoBadDown G T f i
 
-pub record DownReads (b l c d w plausible ends s feasible entries : List ℕ) (r : Reads) : Type 0 where
-  pub feasible-long : length feasible ≡ max-nodes
+pub record DownReads (b l c d w ends kept kept′ entries : List ℕ) (r : Reads) : Type 0 where
+  pub only : OnlyFeasible kept kept′
   pub entries-long : length entries ≡ max-nodes
-  pub case : (t : TreeOf (grammar b) l) (u : List ℕ) → Ended (t .tree) 0 0 ends → Ranked (grammar b) (tables c d u w) (t .tree) 0 0 plausible
-      → RightRank (grammar b) (tables c d u w) (t .tree) s 0 → DownIs (grammar b) (tables c d u w) (t .tree) feasible entries r
+  pub case : (t : TreeOf (grammar b) l) (u : List ℕ) → Ended (t .tree) 0 0 ends → Ranked (grammar b) (tables c d u w) (t .tree) 0 0 (plausible-ranks kept)
+      → RightRank (grammar b) (tables c d u w) (t .tree) (feasible-ranks kept) 0 → DownIs (grammar b) (tables c d u w) (t .tree) (feasible-ranks kept′) entries r
 
 -- ── all reads ──
 -- a read that fails: its place, and its turn among the reads of n nodes
@@ -143,9 +144,8 @@ ChoiceIs G T f plausible ends feasible entries All = ((p t : ℕ) → Fails G T 
 ChoiceIs G T f plausible ends feasible entries (Bad p) =
     (t : ℕ) × Fails G T f (size f) p t × ((p′ t′ : ℕ) → t′ < t → Fails G T f (size f) p′ t′ → ⊥)
 
-pub record Choice (b l c d u w plausible ends feasible entries : List ℕ) (r : Reads) : Type 0 where
-  pub plausible-long : length plausible ≡ max-nodes
+pub record Choice (b l c d u w kept ends entries : List ℕ) (r : Reads) : Type 0 where
+  pub kept-long : length kept ≡ room
   pub ends-long : length ends ≡ max-nodes
-  pub feasible-long : length feasible ≡ max-nodes
   pub entries-long : length entries ≡ max-nodes
-  pub case : (t : TreeOf (grammar b) l) → ChoiceIs (grammar b) (tables c d u w) (t .tree) plausible ends feasible entries r
+  pub case : (t : TreeOf (grammar b) l) → ChoiceIs (grammar b) (tables c d u w) (t .tree) (plausible-ranks kept) ends (feasible-ranks kept) entries r

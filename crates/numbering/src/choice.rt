@@ -4,13 +4,16 @@ ghost use Prim.Native.Nat.{_≤_};
 ghost use lib.ListN.{length};
 ghost use Rattle.chains.specs.Limits.{max-nodes};
 ghost use Rattle.book.specs.Format.{kinds};
+ghost use Rattle.numbering.specs.KeptRanks.{room};
 ghost use Rattle.numbering.specs.Parts.{Indexed, Sheeted, Choice};
 use super::downward::read_downward;
+use super::kept::RANKS;
+use super::kept::keep_feasible;
+use super::kept::plausible_of;
 use super::limits::NODES;
 use super::limits::PRODUCTIONS;
 use super::upward::Reads;
 use super::upward::read_upward;
-use ranks::Plausible;
 
 // The root's feasible rank is its plausible rank; every other comes from its parent's entry.
 pub fn choose(
@@ -21,26 +24,24 @@ pub fn choose(
     feasible_counts: &[u8],
     up: &[u8],
     down: &[u8],
-    plausible: &mut [u8; NODES],
+    kept: &mut [u8; RANKS],
     ends: &mut [u16; NODES],
-    feasible: &mut [u8; NODES],
     entries: &mut [u64; NODES],
 ) -> Reads
     requires { ⌜ Indexed (now book) (now places) × Sheeted (now book) (now sheet)
         × (kinds (now book) ≤ length (now «plausible_counts»)) × (kinds (now book) ≤ length (now «feasible_counts»))
-        × (length (now plausible) ≡ max-nodes) × (length (now ends) ≡ max-nodes) × (length (now feasible) ≡ max-nodes) × (length (now entries) ≡ max-nodes) ⌝ }
+        × (length (now kept) ≡ room) × (length (now ends) ≡ max-nodes) × (length (now entries) ≡ max-nodes) ⌝ }
     ensures { λ r. ⌜ Choice (now (book .entry)) (now (sheet .entry)) (now («plausible_counts» .entry)) (now («feasible_counts» .entry)) (now (up .entry)) (now (down .entry))
-        (now (plausible .exit)) (now (ends .exit)) (now (feasible .exit)) (now (entries .exit)) r ⌝ }
+        (now (kept .exit)) (now (ends .exit)) (now (entries .exit)) r ⌝ }
 {
-    match read_upward(book, places, sheet, plausible_counts, up, plausible, ends) {
+    match read_upward(book, places, sheet, plausible_counts, up, kept, ends) {
         Reads::Bad(i) => Reads::Bad(i),
         Reads::All => {
-            let root = ranks::started(Plausible(plausible[0]));
+            let root = ranks::started(plausible_of(kept, 0));
             let start = book::start(book) as usize;
-            if feasible_counts[start] <= root.0 {
+            if !keep_feasible(kept, 0, root, feasible_counts[start]) {
                 return Reads::Bad(0);
             }
-            feasible[0] = root.0;
             read_downward(
                 book,
                 places,
@@ -48,9 +49,8 @@ pub fn choose(
                 plausible_counts,
                 feasible_counts,
                 down,
-                plausible,
                 ends,
-                feasible,
+                kept,
                 entries,
             )
         }

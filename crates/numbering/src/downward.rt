@@ -5,8 +5,12 @@ ghost use lib.ListN.{length};
 ghost use Rattle.chains.specs.Limits.{max-nodes};
 ghost use Rattle.book.specs.Format.{kinds, prods, grammar};
 ghost use Rattle.ranks.specs.Entries.{down-start};
+ghost use Rattle.numbering.specs.KeptRanks.{room};
 ghost use Rattle.numbering.specs.Parts.{Indexed, Sheeted, Children, Ended, HandedDown, DownNodeRead, DownReads};
 ghost use Rattle.numbering.specs.Promise.{TreeOf};
+use super::kept::RANKS;
+use super::kept::feasible_of;
+use super::kept::keep_feasible;
 use super::kin::kid_counts;
 use super::kin::kin_of;
 use super::limits::NODES;
@@ -14,7 +18,6 @@ use super::limits::PRODUCTIONS;
 use super::starts::down_starts;
 use super::upward::Reads;
 use ranks::DownRead;
-use ranks::Feasible;
 
 // What is read at a node: its down entry; or an entry past its slice, or a child's rank not below its count.
 pub enum DownNode {
@@ -32,11 +35,11 @@ fn hand_down(
     entry: u64,
     ends: &[u16; NODES],
     i: usize,
-    feasible: &mut [u8; NODES],
+    kept: &mut [u8; RANKS],
 ) -> bool
     requires { ⌜ Indexed (now book) (now places) × (p < prods (now book)) × (kinds (now book) ≤ length (now counts))
-        × (length (now feasible) ≡ max-nodes) × (length (now ends) ≡ max-nodes) × Children (now ends) i (length (grammar (now book) .kids p)) ⌝ }
-    ensures { λ r. ⌜ HandedDown (now (book .entry)) (now (counts .entry)) (now (down .entry)) entry p (now (ends .entry)) i (now (feasible .entry)) (now (feasible .exit)) r ⌝ }
+        × (length (now kept) ≡ room) × (length (now ends) ≡ max-nodes) × Children (now ends) i (length (grammar (now book) .kids p)) ⌝ }
+    ensures { λ r. ⌜ HandedDown (now (book .entry)) (now (counts .entry)) (now (down .entry)) entry p (now (ends .entry)) i (now (kept .entry)) (now (kept .exit)) r ⌝ }
 {
     let at = places[p];
     let kids = book::arity(book, at);
@@ -45,10 +48,9 @@ fn hand_down(
     while j < kids {
         let rank = ranks::child_rank(down, entry, j as usize);
         let kind = book::kid(book, at, j) as usize;
-        if counts[kind] <= rank.0 {
+        if !keep_feasible(kept, child, rank, counts[kind]) {
             return false;
         }
-        feasible[child] = rank.0;
         child = ends[child] as usize;
         j += 1;
     }
@@ -64,36 +66,25 @@ fn read_node(
     down: &[u8],
     start: u64,
     p: usize,
-    plausible: &[u8; NODES],
     ends: &[u16; NODES],
     i: usize,
-    feasible: &mut [u8; NODES],
+    kept: &mut [u8; RANKS],
 ) -> DownNode
     requires { ⌜ Indexed (now book) (now places) × (p < prods (now book)) × (kinds (now book) ≤ length (now counts)) × (kinds (now book) ≤ length (now «feasible_counts»))
         × (start ≡ down-start (grammar (now book)) (now counts) (now «feasible_counts») p)
-        × (length (now plausible) ≡ max-nodes) × (length (now ends) ≡ max-nodes) × (length (now feasible) ≡ max-nodes)
-        × Children (now ends) i (length (grammar (now book) .kids p)) ⌝ }
+        × (length (now ends) ≡ max-nodes) × (length (now kept) ≡ room) × Children (now ends) i (length (grammar (now book) .kids p)) ⌝ }
     ensures { λ r. ⌜ DownNodeRead (now (book .entry)) (now (counts .entry)) (now («feasible_counts» .entry)) (now (down .entry))
-        (now (plausible .entry)) (now (ends .entry)) i p (now (feasible .entry)) (now (feasible .exit)) r ⌝ }
+        (now (ends .entry)) i p (now (kept .entry)) (now (kept .exit)) r ⌝ }
 {
     let at = places[p];
-    let kin = kin_of(plausible, ends, i, book::arity(book, at));
+    let kids = book::arity(book, at);
+    let kin = kin_of(kept, ends, i, kids);
     let ranks = kin.ranks;
-    let own = Feasible(feasible[i]);
+    let own = feasible_of(kept, i);
     match ranks::read_down(down, start, kid_counts(book, places, p, counts), own, ranks) {
         DownRead::Past => DownNode::Bad,
         DownRead::At(entry) => {
-            if hand_down(
-                book,
-                places,
-                p,
-                feasible_counts,
-                down,
-                entry,
-                ends,
-                i,
-                feasible,
-            ) {
+            if hand_down(book, places, p, feasible_counts, down, entry, ends, i, kept) {
                 return DownNode::Entry(entry);
             }
             DownNode::Bad
@@ -109,16 +100,15 @@ pub fn read_downward(
     counts: &[u8],
     feasible_counts: &[u8],
     down: &[u8],
-    plausible: &[u8; NODES],
     ends: &[u16; NODES],
-    feasible: &mut [u8; NODES],
+    kept: &mut [u8; RANKS],
     entries: &mut [u64; NODES],
 ) -> Reads
     requires { ⌜ Indexed (now book) (now places) × Sheeted (now book) (now sheet) × (kinds (now book) ≤ length (now counts)) × (kinds (now book) ≤ length (now «feasible_counts»))
-        × (length (now plausible) ≡ max-nodes) × (length (now ends) ≡ max-nodes) × (length (now feasible) ≡ max-nodes) × (length (now entries) ≡ max-nodes)
+        × (length (now ends) ≡ max-nodes) × (length (now kept) ≡ room) × (length (now entries) ≡ max-nodes)
         × ((t : TreeOf (grammar (now book)) (now sheet)) → Ended (t .tree) 0 0 (now ends)) ⌝ }
     ensures { λ r. ⌜ DownReads (now (book .entry)) (now (sheet .entry)) (now (counts .entry)) (now («feasible_counts» .entry)) (now (down .entry))
-        (now (plausible .entry)) (now (ends .entry)) (now (feasible .entry)) (now (feasible .exit)) (now (entries .exit)) r ⌝ }
+        (now (ends .entry)) (now (kept .entry)) (now (kept .exit)) (now (entries .exit)) r ⌝ }
 {
     let starts = down_starts(book, places, counts, feasible_counts);
     let mut i = 0;
@@ -132,10 +122,9 @@ pub fn read_downward(
             down,
             starts[p],
             p,
-            plausible,
             ends,
             i,
-            feasible,
+            kept,
         ) {
             DownNode::Bad => {
                 return Reads::Bad(i as u16);

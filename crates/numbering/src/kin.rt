@@ -7,7 +7,11 @@ ghost use Rattle.chains.specs.Limits.{max-kids, max-nodes};
 ghost use Rattle.book.specs.Format.{kinds, prods, grammar};
 ghost use Rattle.ranks.specs.Reads.{numbers};
 ghost use Rattle.ranks.specs.Padded.{CountsPadded};
+ghost use Rattle.numbering.specs.KeptRanks.{room, plausible-ranks};
 ghost use Rattle.numbering.specs.Parts.{Indexed, Children, Kindred};
+use super::kept::RANKS;
+use super::kept::past_the_last;
+use super::kept::plausible_of;
 use super::limits::NODES;
 use super::limits::PRODUCTIONS;
 use ranks::KIDS;
@@ -37,16 +41,16 @@ pub fn kid_counts(book: &[u8], places: &[usize; PRODUCTIONS], p: usize, counts: 
 }
 
 // The ranks of the first `kids` children of node i; 0 past the last.
-pub fn kin_of(plausible: &[u8; NODES], ends: &[u16; NODES], i: usize, kids: u8) -> Kin
-    requires { ⌜ (length (now plausible) ≡ max-nodes) × (length (now ends) ≡ max-nodes) × Children (now ends) i kids ⌝ }
-    ensures { λ r. ⌜ Kindred (now (plausible .entry)) (now (ends .entry)) i kids (numbers (r .ranks)) (r .end) ⌝ }
+pub fn kin_of(kept: &[u8; RANKS], ends: &[u16; NODES], i: usize, kids: u8) -> Kin
+    requires { ⌜ (length (now kept) ≡ room) × (length (now ends) ≡ max-nodes) × Children (now ends) i kids ⌝ }
+    ensures { λ r. ⌜ Kindred (plausible-ranks (now (kept .entry))) (now (ends .entry)) i kids (numbers (r .ranks)) (r .end) ⌝ }
 {
-    let none = Plausible(0);
+    let none = past_the_last();
     let mut ranks = [none; KIDS];
     let mut at = i + 1;
     let mut j = 0;
     while j < kids {
-        ranks[j as usize] = Plausible(plausible[at]);
+        ranks[j as usize] = plausible_of(kept, at);
         at = ends[at] as usize;
         j += 1;
     }

@@ -2,6 +2,7 @@
 mod choice;
 mod counts;
 mod downward;
+mod kept;
 mod kin;
 mod limits;
 mod numbers;

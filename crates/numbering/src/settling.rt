@@ -10,6 +10,7 @@ ghost use Rattle.numbering.specs.Admitting.{Clear};
 use super::Grouping;
 use super::choice::choose;
 use super::counts::too_many;
+use super::kept::RANKS;
 use super::limits::NODES;
 use super::numbers::number_all;
 use super::telling::tell;
@@ -40,9 +41,8 @@ pub fn settle(
         };
     }
     let places = book::index(book);
-    let mut plausible = [0u8; NODES];
+    let mut kept = [0u8; RANKS];
     let mut ends = [0u16; NODES];
-    let mut feasible = [0u8; NODES];
     let mut entries = [0u64; NODES];
     match choose(
         book,
@@ -52,14 +52,13 @@ pub fn settle(
         feasible_counts,
         up,
         down,
-        &mut plausible,
+        &mut kept,
         &mut ends,
-        &mut feasible,
         &mut entries,
     ) {
         Reads::Bad(place) => Grouping::Refused { number: 25, place },
         Reads::All => {
-            tell(sheet.len(), &plausible, &feasible, &entries, nodes);
+            tell(sheet.len(), &kept, &entries, nodes);
             let used = number_all(book, &places, sheet, down, &ends, &entries, groups);
             Grouping::Accepted {
                 nodes: count,

@@ -4,30 +4,23 @@ ghost use mathlib.Core.List.{_++_};
 ghost use Prim.Native.Nat.{_*_, _≤_};
 ghost use lib.ListN.{length, drop};
 ghost use Rattle.chains.specs.Limits.{max-nodes};
+ghost use Rattle.numbering.specs.KeptRanks.{room, plausible-ranks, feasible-ranks};
 ghost use Rattle.numbering.specs.Giving.{rows};
+use super::kept::RANKS;
+use super::kept::feasible_told;
+use super::kept::plausible_told;
 use super::limits::NODES;
 
-fn long(x: u8) -> u64
-    ensures { λ r. ⌜ r ≡ x ⌝ }
-{
-    x as u64
-}
-
-pub fn tell(
-    n: usize,
-    plausible: &[u8; NODES],
-    feasible: &[u8; NODES],
-    entries: &[u64; NODES],
-    nodes: &mut [u64],
-)
-    requires { ⌜ (n ≤ max-nodes) × (3 * n ≤ length (now nodes)) × (length (now plausible) ≡ max-nodes) × (length (now feasible) ≡ max-nodes) × (length (now entries) ≡ max-nodes) ⌝ }
-    ensures { λ r. ⌜ now (nodes .exit) ≡ rows (now (plausible .entry)) (now (feasible .entry)) (now (entries .entry)) 0 n ++ drop (3 * n) (now (nodes .entry)) ⌝ }
+pub fn tell(n: usize, kept: &[u8; RANKS], entries: &[u64; NODES], nodes: &mut [u64])
+    requires { ⌜ (n ≤ max-nodes) × (3 * n ≤ length (now nodes)) × (length (now kept) ≡ room) × (length (now entries) ≡ max-nodes) ⌝ }
+    ensures { λ r. ⌜ now (nodes .exit) ≡ rows (plausible-ranks (now (kept .entry))) (feasible-ranks (now (kept .entry))) (now (entries .entry)) 0 n ++ drop (3 * n) (now (nodes .entry)) ⌝ }
 {
     let mut i = 0;
     while i < n {
-        nodes[3 * i] = long(plausible[i]);
-        nodes[3 * i + 1] = long(feasible[i]);
-        nodes[3 * i + 2] = entries[i];
+        let at = 3 * i;
+        nodes[at] = plausible_told(kept, i);
+        nodes[at + 1] = feasible_told(kept, i);
+        nodes[at + 2] = entries[i];
         i += 1;
     }
 }

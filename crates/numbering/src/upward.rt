@@ -4,7 +4,10 @@ ghost use Prim.Native.Nat.{_≤_};
 ghost use lib.ListN.{length};
 ghost use Rattle.chains.specs.Limits.{max-nodes};
 ghost use Rattle.book.specs.Format.{kinds};
+ghost use Rattle.numbering.specs.KeptRanks.{room};
 ghost use Rattle.numbering.specs.Parts.{Indexed, Sheeted, UpReads};
+use super::kept::RANKS;
+use super::kept::keep_plausible;
 use super::kin::kid_counts;
 use super::kin::kin_of;
 use super::limits::NODES;
@@ -25,12 +28,12 @@ pub fn read_upward(
     sheet: &[u8],
     counts: &[u8],
     up: &[u8],
-    plausible: &mut [u8; NODES],
+    kept: &mut [u8; RANKS],
     ends: &mut [u16; NODES],
 ) -> Reads
     requires { ⌜ Indexed (now book) (now places) × Sheeted (now book) (now sheet) × (kinds (now book) ≤ length (now counts))
-        × (length (now plausible) ≡ max-nodes) × (length (now ends) ≡ max-nodes) ⌝ }
-    ensures { λ r. ⌜ UpReads (now (book .entry)) (now (sheet .entry)) (now (counts .entry)) (now (up .entry)) (now (plausible .exit)) (now (ends .exit)) r ⌝ }
+        × (length (now kept) ≡ room) × (length (now ends) ≡ max-nodes) ⌝ }
+    ensures { λ r. ⌜ UpReads (now (book .entry)) (now (sheet .entry)) (now (counts .entry)) (now (up .entry)) (now (kept .exit)) (now (ends .exit)) r ⌝ }
 {
     let starts = up_starts(book, places, counts);
     let mut i = sheet.len();
@@ -38,7 +41,8 @@ pub fn read_upward(
         i -= 1;
         let p = sheet[i] as usize;
         let at = places[p];
-        let kin = kin_of(plausible, ends, i, book::arity(book, at));
+        let kids = book::arity(book, at);
+        let kin = kin_of(kept, ends, i, kids);
         let ranks = kin.ranks;
         match ranks::read_up(up, starts[p], kid_counts(book, places, p, counts), ranks) {
             UpRead::Past => {
@@ -46,10 +50,9 @@ pub fn read_upward(
             }
             UpRead::Rank(rank) => {
                 let left = book::left(book, at) as usize;
-                if counts[left] <= rank.0 {
+                if !keep_plausible(kept, i, rank, counts[left]) {
                     return Reads::Bad(i as u16);
                 }
-                plausible[i] = rank.0;
                 ends[i] = kin.end as u16;
             }
         }

@@ -51,11 +51,6 @@ ranks-of-choice c ks rs h =
     let l = choice-below c ks rs h in
     choice-once c ks (ranks-of c ks (choice c ks rs)) rs (ranks-of-below c ks (choice c ks rs) l) h (choice-ranks-of c ks (choice c ks rs) l)
 
--- unlike children: the first of a kind with 3 members, the second of one with 4; rank 2 of the first and rank 1 of the second make 2 * 4 + 1
-unlike : choice (5 ∷ 3 ∷ 4 ∷ []) (1 ∷ 2 ∷ []) (2 ∷ 1 ∷ []) ≡ 9
-unfolding choices choice
-unlike = refl
-
 -- kinds with at most m members each
 pub choices-few : (c : List ℕ) (m : ℕ) (ks : List ℕ) → ((j : ℕ) → j < length ks → getD c (getD ks j 0) 0 ≤ m) → choices c ks ≤ m ^ length ks
 unfolding choices

@@ -1,12 +1,9 @@
 -- An accepted sheet: what a check's acceptance says of it, and what its readers may lean on.
 use mathlib.Core.Path.{_≡_, refl}
 use mathlib.Core.List.{List, [], _∷_}
-use Prim.Native.Nat.{ℕ, suc, _*_, _≤_, _<_}
-use native.Mathlib.Nat.{mul-suc}
-use native.Mathlib.Omega.{arith}
+use Prim.Native.Nat.{ℕ, _<_}
 use lib.ListN.{length, getD}
 use Rattle.lists.specs.Refusals.{accepted}
-use Rattle.chains.specs.Limits.{max-settings}
 use Rattle.chains.specs.Grammar.{Grammar}
 use Rattle.chains.specs.Tree.{Bush}
 use Rattle.book.specs.Format.{grammar, kinds, prods}
@@ -29,14 +26,3 @@ accepted-sheet b l n s d = let (f, e) = sheet-tree b l (n ∷ s ∷ []) .0 d in 
 -- each byte is a production's number
 pub byte-low : {G : Grammar} {l : List ℕ} {f : Bush} → Drawn G l f → (i : ℕ) → i < length l → getD l i 0 < G .prods
 byte-low d i h = passed (drawn-read d) h .heads .0
-
--- the sum of the settings is at most 8 for each node
-sum-low : (G : Grammar) (m : ℕ) (l : List ℕ) → ((i : ℕ) → i < length l → G .settings (G .left (getD l i 0)) ≤ m) → all-settings G l ≤ m * length l
-unfolding all-settings
-sum-low G m [] h = omega arith
-sum-low G m (p ∷ l) h = omega (arith, h 0 (omega arith), sum-low G m l (λ i k. h (suc i) (omega arith)), mul-suc m (length l))
-
-pub settings-low : {b l : List ℕ} → Fits b l → all-settings (grammar b) l ≤ max-settings * length l
-settings-low {b} {l} f = sum-low (grammar b) max-settings l (λ i h.
-    let law = book-accepted b (f .sound) .lawful in
-    law .few-settings (grammar b .left (getD l i 0)) (law .left-in (getD l i 0) (byte-low (f .drawn) i h)))

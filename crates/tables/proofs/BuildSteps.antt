@@ -21,7 +21,7 @@ use Rattle.tables.specs.declared.Built.{Built}
 use Rattle.tables.specs.declared.Built.the-variants.{Accepted, Refused}
 use Rattle.tables.specs.Answer.{said, lent}
 use Rattle.tables.specs.Making.{Ready, Settled, up-exceeds, down-exceeds, Tabled, Worked, refuses}
-use Rattle.tables.proofs.Holds.{holds-fine}
+use Rattle.tables.proofs.Sweeping.{holds-exact}
 use Rattle.tables.proofs.Exits.{refuse-plausible, refuse-feasible, tables-worked}
 use Rattle.tables.proofs.Building.{lents, refused-wiped}
 
@@ -36,10 +36,7 @@ module _ {b : List ℕ} {m : Lent} (ready : Ready b m) where
 
   module _ {s c : List ℕ} {r : Bool} (o : Outcome (kinds b) (Plausible (grammar b)) (m .plausible) (m .plausible-counts) s c r) (e : r ≡ true) where
     pub plausible-held : Exact (kinds b) (Plausible (grammar b)) s c
-    plausible-held = record {
-      fine = holds-fine (ready .room .plausible) (ready .room .plausible-counts) (o .holds e);
-      whole = λ k x h. o .holds e .exactly k x h .1;
-    }
+    plausible-held = holds-exact (ready .room .plausible) (ready .room .plausible-counts) (o .holds e)
 
     pub worked-feasible : {f d : List ℕ} {q : Bool} (m′ : Lent) → Outcome (kinds b) (Feasible (grammar b)) (m .feasible) (m .feasible-counts) f d q
         → q ≡ false → Worked b m (refused 11 0) m′
@@ -49,10 +46,7 @@ module _ {b : List ℕ} {m : Lent} (ready : Ready b m) where
       pub settled : Settled b s c f d
       settled = record {
         plausible = plausible-held;
-        feasible = record {
-          fine = holds-fine (ready .room .feasible) (ready .room .feasible-counts) (p .holds z);
-          whole = λ k x h. p .holds z .exactly k x h .1;
-        };
+        feasible = holds-exact (ready .room .feasible) (ready .room .feasible-counts) (p .holds z);
       }
 
       pub worked-tables : (u w : List ℕ) (a : Said) → Tabled (grammar b) s c f d (m .up) (m .down) a u w → Worked b m a (lent s c f d u w)

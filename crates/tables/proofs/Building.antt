@@ -16,25 +16,11 @@ use Rattle.bookcheck.specs.declared.Checked.{Checked}
 use Rattle.bookcheck.specs.declared.Checked.the-variants as checks
 use Rattle.bookcheck.specs.Answer as checked
 use Rattle.bookcheck.proofs.Accepted.{accepted-book}
-use Rattle.tables.specs.declared.Built.{Built}
 use Rattle.tables.specs.declared.Built.the-variants.{Accepted, Refused}
 use Rattle.tables.specs.Promise.{Lent, Applies, of-book, short-slice, over-plausible, over-feasible, short-up, short-down, wiped, left-by, BuildDue}
 use Rattle.tables.specs.Answer.{said, lent}
 use Rattle.tables.specs.Making.{TooShort, Roomy, Measured, Lacking, Ready, WorkDue}
 use Rattle.tables.proofs.Exits.{FirstDue, refuse-room}
-use Rattle.tables.proofs.Promise.{build-once}
-
--- ── the answer ──
--- what an answer says is the whole of it
-pub said-once : (r s : Built) → said r ≡ said s → r ≡ s
-said-once (Accepted u w) (Accepted u′ w′) e = cc
-said-once (Accepted u w) (Refused n p) e = cc
-said-once (Refused n p) (Accepted u w) e = cc
-said-once (Refused n p) (Refused n′ p′) e = cc
-
--- THEOREM: two outcomes of a build that keep its promise are one, answer and memory
-pub built-once : (b : List ℕ) (m : Lent) (r r′ : Built) (m₁ m₂ : Lent) → BuildDue b m (said r) m₁ → BuildDue b m (said r′) m₂ → (r ≡ r′) × (m₁ ≡ m₂)
-built-once b m r r′ m₁ m₂ d d′ = let (e, f) = build-once b m (said r) (said r′) m₁ m₂ d d′ in (said-once r r′ e, f)
 
 -- ── the memory ──
 pub lents : (s c f d u w s′ c′ f′ d′ u′ w′ : List ℕ) → s ≡ s′ → c ≡ c′ → f ≡ f′ → d ≡ d′ → u ≡ u′ → w ≡ w′ → lent s c f d u w ≡ lent s′ c′ f′ d′ u′ w′

@@ -24,6 +24,7 @@ use Rattle.tables.specs.Promise.{down-entries, Written}
 use Rattle.tables.specs.State.{based}
 use Rattle.tables.specs.Shape.{kind-of, kinds-from, ShapeAt, Opened}
 use Rattle.tables.specs.Sweep.{Exact}
+use Rattle.tables.specs.Making.{Settled}
 use Rattle.tables.specs.Fill.{tied, tied-once, Listed, DownBytes, Entry, EntriesLaid, chosen, ByAllRanks, AllChoices, AllAsked, DownRun, DownAll}
 use Rattle.tables.specs.declared.shape.Shape.{Shape}
 use Rattle.tables.specs.declared.entry.Table.the-variants.{Down}
@@ -111,18 +112,18 @@ module _ {b : List ℕ} (a : Accepted b) (p : ℕ) (l : p < prods b) {v : Shape}
         Wanted : ℕ → List ℕ → Type 0
         Wanted k ks =
             EntriesLaid entry-bytes (getD d k 0 * choices c ks)
-            (ByAllRanks (getD d k 0) c ks (λ u rs e. Entry Down f d v (chosen v 1 s ks rs (tied-once v 0 (member f k u) (based b (entry b p)))) e)) out z out′ q
+            (ByAllRanks (getD d k 0) c ks (λ u rs e. Entry Down s c f d v (chosen v 1 s ks rs (tied-once v 0 (member f k u) (based b (entry b p)))) e)) out z out′ q
 
 -- the same, of an entry found at its place, with the state made there
 module _ {b places : List ℕ} (o : Opened b places) {p : ℕ} (l : p < prods b) {v : Shape} (h : ShapeAt b (getD places p 0) v) {s c f d : List ℕ}
-    (x : Exact (kinds b) (Plausible (grammar b)) s c) (y : Exact (kinds b) (Feasible (grammar b)) f d) {w : List ℕ} (e : w ≡ based b (getD places p 0))
+    (x : Settled b s c f d) {w : List ℕ} (e : w ≡ based b (getD places p 0))
     {out : List ℕ} {z : ℕ} where
   pub down-run-asks : z + getD d (grammar b .left p) 0 * choices c (grammar b .kids p) * entry-bytes ≤ length out → AllAsked v s c f d w out z
-  down-run-asks room = rw (opened-base o p l e) (down-asked (o .book) p l (opened-shape o p l h) x y room)
+  down-run-asks room = rw (opened-base o p l e) (down-asked (o .book) p l (opened-shape o p l h) (x .plausible) (x .feasible) room)
 
   pub down-run-laid : {out′ : List ℕ} {q : ℕ} → EntriesLaid entry-bytes (getD d (kind-of v 0) 0 * choices c (kinds-from v 1)) (AllChoices v s c f d (kinds-from v 1) w) out z out′ q
       → EntriesLaid entry-bytes (getD d (grammar b .left p) 0 * choices c (grammar b .kids p)) (DownRun (grammar b) s c f d p) out z out′ q
-  down-run-laid k = down-laid (o .book) p l (opened-shape o p l h) x y (rw (opened-base o p l e) at k)
+  down-run-laid k = down-laid (o .book) p l (opened-shape o p l h) (x .plausible) (x .feasible) (rw (opened-base o p l e) at k)
 
 -- ── all productions ──
 -- production p's entries stand behind those of the productions before it

@@ -122,12 +122,12 @@ down-put {f} {d} {v} {x} {out} {a} {out′} {out″} {b} h room at e k = laid-on
 
 -- of the table that is told
 module _ {table known : Table} (e : table ≡ known) where
-  pub told-rankable : (f d : List ℕ) (v : Shape) (x : List ℕ) → Rankable table f d v x → Rankable known f d v x
-  told-rankable f d v x h = subst (λ t. Rankable t f d v x) e h
+  pub told-rankable : (s c f d : List ℕ) (v : Shape) (x : List ℕ) → Rankable table s c f d v x → Rankable known s c f d v x
+  told-rankable s c f d v x h = subst (λ t. Rankable t s c f d v x) e h
 
   pub told-room : (a : ℕ) {n : ℕ} → a + entry-size table ≤ n → a + entry-size known ≤ n
   told-room a {n} l = subst (λ t. a + entry-size t ≤ n) e l
 
-  pub told-laid : (f d : List ℕ) (v : Shape) (x : List ℕ) {out : List ℕ} {a : ℕ} {out′ : List ℕ} {z : ℕ} → EntriesLaid (entry-size known) 1 (λ i b. Entry known f d v x b) out a out′ z
-      → EntriesLaid (entry-size table) 1 (λ i b. Entry table f d v x b) out a out′ z
-  told-laid f d v x {out} {a} {out′} {z} h = subst (λ t. EntriesLaid (entry-size t) 1 (λ i b. Entry t f d v x b) out a out′ z) (sym e) h
+  pub told-laid : (s c f d : List ℕ) (v : Shape) (x : List ℕ) {out : List ℕ} {a : ℕ} {out′ : List ℕ} {z : ℕ} → EntriesLaid (entry-size known) 1 (λ i b. Entry known s c f d v x b) out a out′ z
+      → EntriesLaid (entry-size table) 1 (λ i b. Entry table s c f d v x b) out a out′ z
+  told-laid s c f d v x {out} {a} {out′} {z} h = subst (λ t. EntriesLaid (entry-size t) 1 (λ i b. Entry t s c f d v x b) out a out′ z) (sym e) h

@@ -2,11 +2,10 @@
 use mathlib.Core.Path.{_≡_, refl, sym, ap, _∙_, subst}
 use mathlib.Core.Logic.{_↔_}
 use mathlib.Core.List.{List, [], _∷_}
-use Prim.Native.Nat.{ℕ, suc, _+_, _*_, _≤_, _<_}
+use Prim.Native.Nat.{ℕ, suc, _+_, _≤_, _<_}
 use native.Mathlib.Nat.{add-zero}
 use native.Mathlib.Omega.{arith}
 use lib.ListN.{length, getD}
-use Rattle.chains.specs.Limits.{max-members}
 use Rattle.chains.specs.Grammar.{Occ, Grammar, slots, width}
 use Rattle.chains.specs.Grouping.{Says, Alike, Members}
 use Rattle.chains.specs.State.{code-on}
@@ -14,27 +13,19 @@ use Rattle.chains.specs.Feasible.{Chosen}
 use Rattle.book.specs.Format.{kinds, prods, entry, grammar}
 use Rattle.bookcheck.specs.Accepted.{Accepted}
 use Rattle.members.specs.Sets.{member}
-use Rattle.tables.specs.Sets.{Holds}
 use Rattle.ranks.specs.Entries.{Ranks}
 use Rattle.tables.specs.Entries.{picked, Ranked}
 use Rattle.tables.specs.Memory.{Fine}
 use Rattle.tables.specs.State.{based}
 use Rattle.tables.specs.Shape.{ShapeAt, Sized, AllPlaced}
-use Rattle.tables.specs.Sweep.{Exact}
 use Rattle.tables.specs.Fill.{Ready, tied-once, tied, RankOn}
 use Rattle.tables.specs.declared.shape.Shape.{Shape}
 use Rattle.members.proofs.Ranked.{ranked-has}
 use Rattle.tables.proofs.Memory.{fine-placed}
-use Rattle.tables.proofs.Holds.{holds-fine}
 use Rattle.tables.proofs.StateBase.{few-settings, base-state}
 use Rattle.tables.proofs.StateWalk.{base-whole}
 use Rattle.tables.proofs.StateEntry.{Showing, show-base, show-skip, show-tie, Below, below-at, chosen-at}
 use Rattle.tables.proofs.Shapes.{arity-is, arity-few, kind-is, kind-below, width-is-of, width-few}
-
--- ── the sets ──
--- sets that hold what has P, in lent memory with places for n kinds
-pub holds-exact : {n : ℕ} {P : ℕ → ℕ → Type 0} {s₀ c₀ s c : List ℕ} → n * max-members ≤ length s₀ → n ≤ length c₀ → Holds n P s₀ c₀ s c → Exact n P s c
-holds-exact there here h = record { fine = holds-fine there here h; whole = λ k x l. h .exactly k x l .1 }
 
 -- ── members by ranks ──
 pub picked-long : (c s ks rs : List ℕ) → Ranks c ks rs → length (picked s ks rs) ≡ length ks

@@ -10,10 +10,9 @@ use Rattle.lists.specs.Part.{part}
 use Rattle.lists.proofs.Parts.{getD-part}
 use Rattle.chains.specs.Grammar.{Grammar, width}
 use Rattle.chains.specs.Grouping.{Says}
-use Rattle.chains.specs.Plausible.{Plausible}
 use Rattle.chains.specs.State.{code-on}
 use Rattle.chains.proofs.Plausible.{plausible-sound}
-use Rattle.book.specs.Format.{kinds, prods, entry, grammar}
+use Rattle.book.specs.Format.{prods, entry, grammar}
 use Rattle.book.specs.Reading.{told}
 use Rattle.bookcheck.specs.Accepted.{Accepted}
 use Rattle.bookcheck.proofs.Accepted.{told-prods}
@@ -22,21 +21,21 @@ use Rattle.ranks.proofs.Numbers.{ranks-of, ranks-of-below, choice-ranks-of, up-
 use Rattle.tables.specs.Entries.{picked, Upward, Ranked, UpTable}
 use Rattle.tables.specs.Promise.{up-entries, Written}
 use Rattle.tables.specs.State.{based}
-use Rattle.tables.specs.Shape.{kinds-from, ShapeAt, Opened}
-use Rattle.tables.specs.Sweep.{Exact}
+use Rattle.tables.specs.Shape.{kinds-from, first-of, ShapeAt, Opened}
+use Rattle.tables.specs.Making.{Settled}
 use Rattle.tables.specs.Fill.{tied, Listed, EntriesLaid, chosen, Choices, Asked, UpRun, UpAll}
 use Rattle.tables.specs.declared.shape.Shape.{Shape}
 use Rattle.tables.specs.declared.entry.Table.the-variants.{Up}
 use Rattle.tables.proofs.StateBase.{few-settings}
 use Rattle.tables.proofs.StateEntry.{show-says, below-all}
-use Rattle.tables.proofs.Shapes.{kind-is, width-is-of, kids-are}
+use Rattle.tables.proofs.Shapes.{all-open, kind-is, width-is-of, kids-are}
 use Rattle.tables.proofs.EntryCounts.{opened-base, opened-shape}
 use Rattle.tables.proofs.FillRuns.{Behind, laid-none, laid-then, laid-map, laid-count, laid-each, laid-written}
 use Rattle.tables.proofs.FillState.{picked-long, picked-members, shape-sized, shape-placed, base-ready, ranked-on, up-shows}
 
 -- ── a production ──
-module _ {b : List ℕ} (a : Accepted b) (p : ℕ) (l : p < prods b) {v : Shape} (h : ShapeAt b (entry b p) v) {s c : List ℕ}
-    (x : Exact (kinds b) (Plausible (grammar b)) s c) where
+module _ {b : List ℕ} (a : Accepted b) (p : ℕ) (l : p < prods b) {v : Shape} (h : ShapeAt b (entry b p) v) {s c f d : List ℕ}
+    (x : Settled b s c f d) where
   abbrev G : Grammar
   G = grammar b
 
@@ -56,39 +55,43 @@ module _ {b : List ℕ} (a : Accepted b) (p : ℕ) (l : p < prods b) {v : Shape}
     -- the result is plausible, and so it has a rank
     up-listed : Listed s c v 0 (state rs)
     up-listed =
-        let m = picked-members (x .fine) ks rs (λ j k. a .lawful .kids-in p j l k) r in
-        let w = x .whole (G .left p) (code-on 0 (width G p 0) (state rs)) (a .lawful .left-in p l)
+        let m = picked-members (x .plausible .fine) ks rs (λ j k. a .lawful .kids-in p j l k) r in
+        let w = x .plausible .whole (G .left p) (code-on 0 (width G p 0) (state rs)) (a .lawful .left-in p l)
         (plausible-sound G (a .lawful) p (code-on 0 (width G p 0) (state rs)) l (picked s ks rs, m, up-says)) in
         rw (kind-is a p l h 0 (omega arith), width-is-of a p l h 0 (omega arith)) w
 
   module _ {out : List ℕ} {z : ℕ} where
     -- what the writing of its entries asks for
-    pub up-asked : z + choices c ks ≤ length out → Asked Up v 1 s c s c (based b (entry b p)) out z
+    pub up-asked : z + choices c ks ≤ length out → Asked Up v 1 s c f d (based b (entry b p)) out z
     up-asked room = record {
-      standing = record { sized = shape-sized a p l h; placed = shape-placed a p l h (x .fine); ready = base-ready a p l h };
-      choose = shape-placed a p l h (x .fine);
-      within = omega arith;
+      standing = record { sized = shape-sized a p l h; placed = shape-placed a p l h (x .feasible .fine); ready = base-ready a p l h };
+      choose = shape-placed a p l h (x .plausible .fine);
       rankable = subst (λ ks. (rs : List ℕ) → Ranks c ks rs → Listed s c v 0 (chosen v 1 s ks rs (based b (entry b p)))) (sym (kids-are a p l h)) up-listed;
       room = rw (kids-are a p l h) (omega (arith, mul-one (choices c ks)));
     }
 
     -- THEOREM: and what it brings
-    pub up-laid : {out′ : List ℕ} {y : ℕ} → EntriesLaid 1 (choices c (kinds-from v 1)) (Choices Up v 1 s c s c (kinds-from v 1) (based b (entry b p))) out z out′ y
+    pub up-laid : {out′ : List ℕ} {y : ℕ} → EntriesLaid 1 (choices c (kinds-from v 1)) (Choices Up v 1 s c f d (kinds-from v 1) (based b (entry b p))) out z out′ y
         → EntriesLaid 1 (choices c ks) (UpRun G s c p) out z out′ y
     up-laid {out′} {y} k =
-        let k′ : EntriesLaid 1 (choices c ks) (Choices Up v 1 s c s c ks (based b (entry b p))) out z out′ y
-        = subst (λ ks. EntriesLaid 1 (choices c ks) (Choices Up v 1 s c s c ks (based b (entry b p))) out z out′ y) (kids-are a p l h) k in
+        let k′ : EntriesLaid 1 (choices c ks) (Choices Up v 1 s c f d ks (based b (entry b p))) out z out′ y
+        = subst (λ ks. EntriesLaid 1 (choices c ks) (Choices Up v 1 s c f d ks (based b (entry b p))) out z out′ y) (kids-are a p l h) k in
         laid-map k′ (λ i n e q rs r m. ranked-on a p l h 0 (omega arith) (up-says rs r) (q rs r m))
 
 -- the same, of an entry found at its place, with the state made there
-module _ {b places : List ℕ} (o : Opened b places) {p : ℕ} (l : p < prods b) {v : Shape} (h : ShapeAt b (getD places p 0) v) {s c : List ℕ}
-    (x : Exact (kinds b) (Plausible (grammar b)) s c) {y : List ℕ} (e : y ≡ based b (getD places p 0)) {out : List ℕ} {z : ℕ} where
-  pub up-run-asks : z + choices c (grammar b .kids p) ≤ length out → Asked Up v 1 s c s c y out z
-  up-run-asks room = rw (opened-base o p l e) (up-asked (o .book) p l (opened-shape o p l h) x room)
+module _ {b places : List ℕ} (o : Opened b places) {p : ℕ} (l : p < prods b) {v : Shape} (h : ShapeAt b (getD places p 0) v) {s c f d : List ℕ}
+    (x : Settled b s c f d) {y : List ℕ} (e : y ≡ based b (getD places p 0)) {out : List ℕ} {z : ℕ} where
+  pub up-run-asks : z + choices c (grammar b .kids p) ≤ length out → (v .arity ≤ v .arity) × Asked Up v (first-of v (v .arity)) s c f d y out z
+  up-run-asks room =
+      let w : Asked Up v 1 s c f d y out z = rw (opened-base o p l e) (up-asked (o .book) p l (opened-shape o p l h) x room) in
+      (omega arith, subst (λ t. Asked Up v t s c f d y out z) (sym (all-open v)) w)
 
-  pub up-run-laid : {out′ : List ℕ} {q : ℕ} → EntriesLaid 1 (choices c (kinds-from v 1)) (Choices Up v 1 s c s c (kinds-from v 1) y) out z out′ q
+  pub up-run-laid : {out′ : List ℕ} {q : ℕ}
+      → EntriesLaid 1 (choices c (kinds-from v (first-of v (v .arity)))) (Choices Up v (first-of v (v .arity)) s c f d (kinds-from v (first-of v (v .arity))) y) out z out′ q
       → EntriesLaid 1 (choices c (grammar b .kids p)) (UpRun (grammar b) s c p) out z out′ q
-  up-run-laid k = up-laid (o .book) p l (opened-shape o p l h) x (rw (opened-base o p l e) at k)
+  up-run-laid {out′} {q} k =
+      let k′ = subst (λ t. EntriesLaid 1 (choices c (kinds-from v t)) (Choices Up v t s c f d (kinds-from v t) y) out z out′ q) (all-open v) k in
+      up-laid (o .book) p l (opened-shape o p l h) x (rw (opened-base o p l e) at k′)
 
 -- ── all productions ──
 -- production p's entries stand behind those of the productions before it

@@ -11,7 +11,7 @@ use Rattle.tables.specs.Sets.{Over}
 use Rattle.tables.specs.Memory.{Fine, Kept, Turned}
 use Rattle.tables.specs.Seen.{seen-bytes, Found, remembered, Stored}
 use Rattle.tables.specs.Turns.{joined, beyond}
-use Rattle.tables.specs.Visit.{size-of, code-of, chosen, Yields, Gathered, OldOr, Gathers, Done, Request, Reply}
+use Rattle.tables.specs.Visit.{size-of, code-of, chosen, Yields, Gathered, OldOr, Gathers, InOrder, Ready, Standing, Done, Request, Reply}
 use Rattle.members.specs.declared.Turn.{Turn}
 use Rattle.members.specs.declared.Turn.the-variants.{Still, Added, Full}
 use Rattle.tables.specs.declared.gather.Visit.{Visit}
@@ -49,6 +49,22 @@ gathers-map {r = r} e g n h f =
 -- where some turn is left
 pub one-less : (j : ℕ) → (j ≡ 0 → ⊥) → j ≡ suc (j - 1)
 one-less j h = omega arith
+
+-- what putting a code in asks, however many turns are left
+pub enter-asks : {v : Visit} {l : List ℕ} {j : ℕ} {u kept s c : List ℕ} → Request v l j u kept s c → Ready v 0 × Standing v 0 u × InOrder (v .kind) s c
+enter-asks {v} {u = u} q =
+    let r = q .ready in
+    let a : Ready v 0 = record {
+      target = r .target;
+      width = r .width;
+      few = omega arith;
+      slots = λ i h. absurd (omega arith);
+      widths = λ i h. absurd (omega arith);
+      sizes = λ i h. absurd (omega arith);
+      apart = λ i k h g. absurd (omega arith);
+    } in
+    let b : Standing v 0 u = record { state = q .standing .state; looked-at = q .standing .looked-at; ahead = λ i h. absurd (omega arith) } in
+    (a, b, q .order)
 
 module _ (v : Visit) (l : List ℕ) where
   done-stays : {n : ℕ} {s c s′ c′ kept : List ℕ} → v .kind < n → Kept n s c s′ c′ → Stored (Done v l s c) kept → Stored (Done v l s′ c′) kept

@@ -54,11 +54,6 @@ equal-counts {s = s} {c} {s′} {c′} u f g k l e =
     sym (rising-whole (members s c k) (members s′ c′ k) (f .rising k l) (g .rising k l) (λ x h. u .stays k x l h)
     (members-long (fine-placed f k l) ∙ e ∙ sym (members-long (fine-placed g k l))))
 
--- between memory and what comes back to it, all members are the same
-pub there-and-back : {n : ℕ} {P Q : ℕ → ℕ → Type 0} {s c s′ c′ : List ℕ} → Kept n s c s′ c′ → Kept n s′ c′ s c → Fine n P s c → Fine n Q s′ c′
-    → (k : ℕ) → k < n → members s′ c′ k ≡ members s c k
-there-and-back u v f g k l = equal-counts u f g k l (let a = u .grows k in let b = v .grows k in omega arith)
-
 -- ── one member more ──
 -- a fact of every kind, from one of this kind and one of the others
 pub every : (k : ℕ) (Q : ℕ → Type 0) → Q k → ((j : ℕ) → (j ≡ k → ⊥) → Q j) → (j : ℕ) → Q j
@@ -163,7 +158,7 @@ same-fine {n} {P} a b f = subst₂ (Fine n P) (sym a) (sym b) f
 pub same-kept : {n : ℕ} {s c s′ c′ : List ℕ} → s′ ≡ s → c′ ≡ c → Kept n s c s′ c′
 same-kept {n} {s} {c} a b = subst₂ (Kept n s c) (sym a) (sym b) (kept-refl n s c)
 
--- THEOREM: what has P, put into its kind's set, is there afterwards, and all is in order; or there are 65
+-- THEOREM: what has P, put into its kind's set, is there afterwards, and all is in order; or there is one more than a set can hold
 pub put-turned : {n : ℕ} {P : ℕ → ℕ → Type 0} {s c s′ c′ : List ℕ} {k x : ℕ} (r : Turn) → Fine n P s c → k < n → P k x → Put k x s c s′ c′ r
     → Turned n P (Has s′ c′ k x) s c s′ c′ r
 put-turned {k = k} {x} Still f h px i =

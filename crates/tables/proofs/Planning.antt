@@ -52,9 +52,6 @@ module _ {b : List ℕ} (a : Accepted b) (p : ℕ) (l : p < prods b) where
     turn-width : (i : ℕ) → i < n → width-of v i ≡ width G p (σ i)
     turn-width i k = h .taken i k .width-is ∙ width-at (σ i) (inside i k)
 
-    pub plan-target : v .target ≡ t
-    plan-target = h .target
-
     pub plan-kind : v .kind ≡ kind-on t
     plan-kind = h .kind ∙ kind-at t target
 

@@ -17,7 +17,7 @@ use Rattle.bookcheck.specs.Accepted.{Accepted}
 use Rattle.bookcheck.proofs.Accepted.{arity-read, kind-in-read}
 use Rattle.ranks.specs.Entries.{choices}
 use Rattle.ranks.proofs.Numbers.{choices-few}
-use Rattle.tables.specs.Shape.{max-slots, kind-of, width-of, kinds-from, ShapeAt, Small, Countable}
+use Rattle.tables.specs.Shape.{max-slots, kind-of, width-of, kinds-from, first-of, ShapeAt, Small, Countable}
 use Rattle.tables.specs.State.{width-in}
 use Rattle.tables.specs.declared.shape.Shape.{Shape}
 use Rattle.tables.proofs.StateBase.{width-is, few-settings}
@@ -58,6 +58,10 @@ module _ {b : List ℕ} {at : ℕ} {ks ws : List ℕ} {t : ℕ} (h : Shaping b a
   }
 
 -- ── the slots from one on ──
+-- as many slots as there are children begin with the first child
+pub all-open : (v : Shape) → first-of v (v .arity) ≡ 1
+all-open v = omega arith
+
 module _ (v : Shape) (t : ℕ) where
   pub kinds-step : t ≤ v .arity → kinds-from v t ≡ kind-of v t ∷ kinds-from v (suc t)
   unfolding kinds-from labelling.labels-by

@@ -14,13 +14,12 @@ use Rattle.lists.proofs.Parts.{place-long, getD-before, getD-this, getD-after}
 use Rattle.chains.specs.Limits.{max-settings, max-kids}
 use Rattle.chains.specs.Grammar.{Named}
 use Rattle.chains.specs.Chain.{Eqv, done, fwd, bwd}
-use Rattle.chains.specs.Grouping.{label, unpack, Says}
-use Rattle.chains.specs.Labels.{joinAt, joins, joinAtF, joinsF, index}
-use Rattle.chains.specs.State.{SameLabel, dropped, code-on, code-pairs}
+use Rattle.chains.specs.Grouping.{label, unpack}
+use Rattle.chains.specs.Labels.{joins, joinAtF, joinsF, index}
+use Rattle.chains.specs.State.{SameLabel, dropped, code-pairs}
 use Rattle.chains.proofs.Closure.{bind}
 use Rattle.chains.proofs.Labels.{Ends, keeps, length-joins}
-use Rattle.chains.proofs.Says.{says-map}
-use Rattle.chains.proofs.State.{shown-joins, state-joins, state-labelled, code-says}
+use Rattle.chains.proofs.State.{shown-joins, state-joins, state-labelled}
 use Rattle.chains.proofs.Tying.{first-there, pairs-named, pairs-have, pairs-ends}
 use Rattle.ranks.specs.Entries.{none}
 use Rattle.tables.specs.State.{Present, Same, Low, State, spot, Whole, Joined, Grouped}
@@ -73,14 +72,6 @@ joined-by {s} {s′} {R} R′ h to from = record {
     back x y (inl e) = fwd done (inl e)
     back x y (inr r) = from x y r
 
--- THEOREM: two occurrences merged
-pub merge-means : {s : List ℕ} → State s → (i j : ℕ) → Present s i → Present s j → Joined s (λ x y. (x ≡ i) × (y ≡ j)) (joinAt s i j)
-unfolding joins Ends
-merge-means {s} st i j hi hj = joined-by (λ x y. (x ≡ i) × (y ≡ j)) (joins-means st ((i, j) ∷ []) (hi, hj, tt)) to (λ x y r. fwd done (inr (inl r)))
-  where
-    to : (x y : ℕ) → ((x ≡ i) × (y ≡ j)) ⊎ ⊥ → Eqv (λ x y. Same s x y ⊎ ((x ≡ i) × (y ≡ j))) x y
-    to x y (inl r) = fwd done (inr r)
-
 -- ---- tying
 module _ {s : List ℕ} (st : State s) (t a c : ℕ) (few : a ≤ max-settings) (w : Whole s t a) where
   pairs-there : Ends (Present s) (code-pairs t a c)
@@ -108,25 +99,25 @@ module _ {s : List ℕ} (st : State s) (t a c : ℕ) (few : a ≤ max-settings) 
 
 -- ---- dropping
 module _ {s : List ℕ} (st : State s) (t : ℕ) (ht : t ≤ max-kids) where
-  room : t * 8 + length (replicate {A = ℕ} 8 255) ≤ length s
+  room : t * max-settings + length (replicate {A = ℕ} max-settings none) ≤ length s
   room = omega (arith, st .long)
 
   within : (o : ℕ) → o / max-settings ≡ t → getD (dropped t s) o none ≡ none
   within o e =
-      let q : o ≡ t * 8 + o % 8 = omega arith in
-      ap (λ (i : ℕ). getD (dropped t s) i none) q ∙ getD-this s (t * 8) (replicate 8 255) room (o % 8) none (omega arith) ∙ getD-replicate 8 (o % 8) 255 255 (omega arith)
+      let q : o ≡ t * max-settings + o % max-settings = omega arith in
+      ap (λ (i : ℕ). getD (dropped t s) i none) q ∙ getD-this s (t * max-settings) (replicate max-settings none) room (o % max-settings) none (omega arith) ∙ getD-replicate max-settings (o % max-settings) none none (omega arith)
 
   beside : (o : ℕ) → (o / max-settings ≡ t → ⊥) → getD (dropped t s) o none ≡ getD s o none
   beside o n =
       by-order (getD (dropped t s) o none ≡ getD s o none) (o / max-settings) t (λ e. absurd (n e))
-      (λ b. getD-before s (t * 8) (replicate 8 255) room o 255 (omega arith)) (λ b. getD-after s (t * 8) (replicate 8 255) room o 255 (omega arith))
+      (λ b. getD-before s (t * max-settings) (replicate max-settings none) room o none (omega arith)) (λ b. getD-after s (t * max-settings) (replicate max-settings none) room o none (omega arith))
 
   out-of : (o : ℕ) → Present (dropped t s) o → o / max-settings ≡ t → ⊥
   out-of o p e = omega (arith, within o e)
 
   -- THEOREM: a slot dropped: the others' occurrences are there as they were
   pub forget-state : State (dropped t s)
-  forget-state = record { long = place-long s (t * 8) (replicate 8 255) room ∙ st .long; low = λ o. by-slot o (ℕ-discrete (o / max-settings) t) }
+  forget-state = record { long = place-long s (t * max-settings) (replicate max-settings none) room ∙ st .long; low = λ o. by-slot o (ℕ-discrete (o / max-settings) t) }
     where
       by-slot : (o : ℕ) → Dec (o / max-settings ≡ t) → Low (getD (dropped t s) o none)
       by-slot o (yes e) = inr (within o e)
@@ -134,21 +125,3 @@ module _ {s : List ℕ} (st : State s) (t : ℕ) (ht : t ≤ max-kids) where
 
   pub forget-present : (o : ℕ) → Present (dropped t s) o ↔ ((o / max-settings ≡ t → ⊥) × Present s o)
   forget-present o = (λ p. (out-of o p, rw (beside o (out-of o p)) at p), λ (n, p). rw (beside o n) p)
-
-  pub forget-same : (o o′ : ℕ) → Same (dropped t s) o o′ ↔ ((o / max-settings ≡ t → ⊥) × (o′ / max-settings ≡ t → ⊥) × Same s o o′)
-  forget-same o o′ = (
-    λ (p, p′, e).
-        let (n, q) = forget-present o .0 p in
-        let (n′, q′) = forget-present o′ .0 p′ in
-        (n, n′, (q, q′, sym (beside o n) ∙ e ∙ beside o′ n′)),
-    λ (n, n′, (q, q′, e)). (forget-present o .1 (n, q), forget-present o′ .1 (n′, q′), beside o n ∙ e ∙ sym (beside o′ n′)),
-  )
-
--- ---- the code of a slot
--- THEOREM: the code of settings that are all there says which stand in one group
-pub view-means : {s : List ℕ} → State s → (t a : ℕ) → t ≤ max-kids → a ≤ max-settings → Whole s t a
-    → Says a (code-on t a s) (λ x y. Same s (spot t x) (spot t y))
-view-means {s} st t a ht ha w = says-map (code-says s t a ha (omega (arith, st .long)) w) (λ x y hx hy. (
-  λ c. (w x hx, w y hy, keeps (λ o. getD s (spot (o .0) (o .1)) none) (λ o q r. r .2 .2) {x = (t, x)} {y = (t, y)} c),
-  λ e. fwd done (omega arith, omega arith, e),
-))

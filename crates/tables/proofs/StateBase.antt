@@ -1,5 +1,5 @@
 -- The base grouping of a production as a state: its occurrences are there, and its dependences are what stands in one group.
-use mathlib.Core.Path.{_≡_, refl, sym, ap, _∙_, subst, subst₂}
+use mathlib.Core.Path.{_≡_, refl, sym, ap, _∙_, subst}
 use mathlib.Core.Logic.{inl, inr, _↔_}
 use mathlib.Core.List.{List, [], _∷_}
 use Prim.Native.Nat.{ℕ, zero, suc, _+_, _*_, _/_, _%_, _≤_, _<_}
@@ -9,10 +9,10 @@ use borrow.Author.Tests.{lt-ltb, le-ltb}
 use lib.ListN.{length, getD, List·getD-eq-default}
 use Rattle.chains.specs.Limits.{max-settings, max-kids}
 use Rattle.chains.specs.Grammar.{Occ, Tie, Grammar, slots, width, Exists, Named, Tied}
-use Rattle.chains.specs.Chain.{Eqv, done, fwd, Slotwise, Join, Closure}
+use Rattle.chains.specs.Chain.{Eqv}
 use Rattle.chains.specs.State.{number, numbers, Shown}
 use Rattle.chains.proofs.Closure.{more}
-use Rattle.chains.proofs.Labels.{Ends, keeps, length-labels, labels-at}
+use Rattle.chains.proofs.Labels.{Ends, length-labels, labels-at}
 use Rattle.chains.proofs.State.{getD-any, base-shown, ties-numbered}
 use Rattle.book.specs.Format.{occ, prods, entry, arity-at, grammar}
 use Rattle.book.specs.Reading.{kind-in}
@@ -20,7 +20,7 @@ use Rattle.bookcheck.proofs.Decided.{exists-decided}
 use Rattle.bookcheck.specs.Accepted.{Accepted}
 use Rattle.bookcheck.proofs.Accepted.{settings-read, arity-read, kind-in-read, pairs-read, inside, to-low, from-low}
 use Rattle.ranks.specs.Entries.{labels, none}
-use Rattle.tables.specs.State.{Present, Same, Low, State, width-in, own, apart, based, Readable}
+use Rattle.tables.specs.State.{Present, Low, State, width-in, own, apart, based, Readable}
 use Rattle.tables.proofs.State.{joins-means}
 
 -- what every pair's ends have
@@ -108,13 +108,13 @@ module _ {b : List ℕ} (a : Accepted b) (p : ℕ) (l : p < prods b) where
   tied-exist : (o q : Occ) → Tied G p o q → Exists G p o × Exists G p q
   tied-exist o q h = let e = a .lawful .named p o q l h in (e .0, e .1)
 
-  named-low : Ends (λ o. o .1 < 8) (G .ties p)
-  named-low = ends-named (λ o. o .1 < 8) (G .ties p) (λ o q h. let e = tied-exist o q h in (exists-low o (e .0) .1, exists-low q (e .1) .1))
+  named-low : Ends (λ o. o .1 < max-settings) (G .ties p)
+  named-low = ends-named (λ o. o .1 < max-settings) (G .ties p) (λ o q h. let e = tied-exist o q h in (exists-low o (e .0) .1, exists-low q (e .1) .1))
 
-  occ-number : (o : Occ) → o .1 < 8 → occ (number o) ≡ o
+  occ-number : (o : Occ) → o .1 < max-settings → occ (number o) ≡ o
   occ-number o h =
-      let d : (o .0 * 8 + o .1) / 8 ≡ o .0 = omega arith in
-      let m : (o .0 * 8 + o .1) % 8 ≡ o .1 = omega arith in
+      let d : (o .0 * max-settings + o .1) / max-settings ≡ o .0 = omega arith in
+      let m : (o .0 * max-settings + o .1) % max-settings ≡ o .1 = omega arith in
       rw (d, m)
 
   there : (o : Occ) → Exists G p o → Present (apart b at) (number o)
@@ -151,26 +151,3 @@ module _ {b : List ℕ} (a : Accepted b) (p : ℕ) (l : p < prods b) where
       let t = base-shown (apart b at) (numbers (G .ties p)) apart-own pairs-there o q in
       let u = ties-numbered (G .ties p) named-low in
       (λ c. more (λ o q n. u o q .0 n) (t .0 c), λ c. t .1 (more (λ o q n. u o q .1 n) c))
-
-  -- THEOREM: what stands in one group is the closure of the dependences alone
-  pub base-same : (o o′ : ℕ) → Present (based b at) o → Present (based b at) o′ → Same (based b at) o o′ ↔ Closure G p (Slotwise (λ a b. ⊥) (λ j a b. ⊥)) (occ o) (occ o′)
-  base-same o o′ h h′ =
-      let t = base-chains (occ o) (occ o′) in
-      (λ e. more (λ o q n. inl n) (t .0 (fwd done (shown e))), λ c. (h, h′, labels-equal (t .1 (more only c))))
-    where
-      whole : (x : ℕ) → x / 8 * 8 + x % 8 ≡ x
-      whole x = omega arith
-
-      shown : Same (based b at) o o′ → Shown (based b at) (occ o) (occ o′)
-      shown e = (omega arith, omega arith, rw (whole o, whole o′) e)
-
-      labels-equal : Eqv (Shown (based b at)) (occ o) (occ o′) → getD (based b at) o none ≡ getD (based b at) o′ none
-      labels-equal c = subst₂ (λ x y. getD (based b at) x none ≡ getD (based b at) y none) (whole o) (whole o′) (keeps (λ q. getD (based b at) (number q) none) (λ x y r. r .2 .2) c)
-
-      no-slotwise : (t a c : ℕ) → Slotwise (λ a b. ⊥) (λ j a b. ⊥) t a c → ⊥
-      no-slotwise zero a c h = h
-      no-slotwise (suc t) a c h = h
-
-      only : (x y : Occ) → Join G p (Slotwise (λ a b. ⊥) (λ j a b. ⊥)) x y → Tied G p x y
-      only x y (inl n) = n
-      only x y (inr (e, n)) = absurd (no-slotwise (x .0) (x .1) (y .1) n)

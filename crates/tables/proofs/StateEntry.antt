@@ -130,7 +130,7 @@ module _ {G : Grammar} {p : ℕ} {τ : ℕ → ℕ → ℕ → Type 0} {n : ℕ}
     pub show-labelled : Labelled G p (Closure G p τ) (tidied s)
     show-labelled = tidy-labelled G p (Closure G p τ) (h .state) (λ o k. h .present o) groups
       where
-        whole : (x : ℕ) → x / 8 * 8 + x % 8 ≡ x
+        whole : (x : ℕ) → x / max-settings * max-settings + x % max-settings ≡ x
         whole x = omega arith
 
         groups : (o o′ : ℕ) → Present s o → Present s o′ → Same s o o′ ↔ Closure G p τ (occ o) (occ o′)

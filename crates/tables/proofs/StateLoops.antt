@@ -110,7 +110,7 @@ tie-next bs i h =
     let two : 2 * (i + 1) ≡ suc (suc (2 * i)) = omega arith in
     rw (one, two, a, b) (ap₂ (λ x y. (x, y) ∷ numbers (ties-of (drop (suc (suc (2 * i))) bs))) (whole (getD bs (2 * i) 0)) (whole (getD bs (suc (2 * i)) 0)))
   where
-    whole : (x : ℕ) → x / 8 * 8 + x % 8 ≡ x
+    whole : (x : ℕ) → x / max-settings * max-settings + x % max-settings ≡ x
     whole x = omega arith
 
 pub record Basing (b : List ℕ) (at : ℕ) (s : List ℕ) (i : ℕ) : Type 0 where

@@ -252,7 +252,7 @@ unfolding canonFrom pack
 canon-next seen l x h = rw (add-one, drop-cons l x 0 h)
 
 module _ {l t : List ℕ} {n c x : ℕ} (h : Viewing l t n c x) (b : x < length l) (low : getD l x 0 < labels) where
-  pub view-turn : {t′ : List ℕ} {k c′ : ℕ} → x < 8 → Numbered t (getD l x 0) n t′ k → (c′ ≡ c + k * 8 ^ x) × (c′ < 8 ^ (x + 1))
+  pub view-turn : {t′ : List ℕ} {k c′ : ℕ} → x < max-settings → Numbered t (getD l x 0) n t′ k → (c′ ≡ c + k * 8 ^ x) × (c′ < 8 ^ (x + 1))
       → Viewing l t′ (pick (eqb k n) (n + 1) n) c′ (x + 1)
   view-turn {t′} {k} {c′} e a (p, q) =
       let y = getD l x 0 in
@@ -274,7 +274,7 @@ module _ {l t : List ℕ} {n c x : ℕ} (h : Viewing l t n c x) (b : x < length 
       one-more false = omega (arith, h .few)
 
   -- the number that a label gets fits three bits
-  pub view-small : {t′ : List ℕ} {k : ℕ} → x < 8 → Numbered t (getD l x 0) n t′ k → k < 8
+  pub view-small : {t′ : List ℕ} {k : ℕ} → x < max-settings → Numbered t (getD l x 0) n t′ k → k < 8
   view-small e a =
       let g = numbered (h .table) (getD l x 0) low (omega (arith, h .few)) a in
       omega (arith, g .0, index-le (getD l x 0) (h .seen), h .table .count, h .few)

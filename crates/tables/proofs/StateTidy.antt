@@ -125,28 +125,6 @@ module _ {s : List ℕ} (st : State s) where
   pub tidy-proper : Proper 0 (kept (tidied s))
   tidy-proper = rw (tidy-kept s [] few) (canon-proper (kept s) [])
 
--- THEOREM: equal groupings of the same occurrences are equal arrays
-pub tidy-once : {s t : List ℕ} → State s → State t → ((o : ℕ) → Present s o ↔ Present t o) → ((o o′ : ℕ) → Same s o o′ ↔ Same t o o′) → tidied s ≡ tidied t
-tidy-once {s} {t} hs ht there same = labels-once (tidied s) (tidied t) gaps (tidy-proper hs) (tidy-proper ht) groups
-  where
-    gap-to : {u v : List ℕ} → State u → State v → ((o : ℕ) → Present v o → Present u o) → (o : ℕ) → getD (tidied u) o none ≡ none → getD (tidied v) o none ≡ none
-    gap-to {u} {v} hu hv h o e = elim (tidy-state hv .low o) [ inl l ↦ absurd (let p = tidy-present hu o .1 (h o (tidy-present hv o .0 (omega arith))) in omega arith) | inr q ↦ q ]
-
-    gaps : Fit (tidied s) (tidied t)
-    gaps =
-        fit (tidied s) (tidied t) (tidy-state hs .long ∙ sym (tidy-state ht .long))
-        (λ o h. (gap-to hs ht (λ o. there o .1) o, gap-to ht hs (λ o. there o .0) o))
-
-    groups : (o o′ : ℕ) → Stands (tidied s) o → Stands (tidied s) o′ → (getD (tidied s) o none ≡ getD (tidied s) o′ none) ↔ (getD (tidied t) o none ≡ getD (tidied t) o′ none)
-    groups o o′ h h′ =
-        let p = present (tidy-state hs) o h in
-        let p′ = present (tidy-state hs) o′ h′ in
-        let q = tidy-present ht o .1 (there o .0 (tidy-present hs o .0 p)) in
-        let q′ = tidy-present ht o′ .1 (there o′ .0 (tidy-present hs o′ .0 p′)) in (
-          λ e. tidy-same ht o o′ .1 (same o o′ .0 (tidy-same hs o o′ .0 (p, p′, e))) .2,
-          λ e. tidy-same hs o o′ .1 (same o o′ .1 (tidy-same ht o o′ .0 (q, q′, e))) .2,
-        )
-
 -- ---- what a down entry holds
 module _ (G : Grammar) (p : ℕ) (R : Occ → Occ → Type 0) where
   -- THEOREM: a state of a production's occurrences, with R's groups, is labelled once it is tidied

@@ -15,7 +15,7 @@ use Rattle.lists.specs.Part.{part, place}
 use Rattle.lists.proofs.Order.{by-order}
 use Rattle.lists.proofs.Parts.{length-part, getD-part, place-long, place-this, place-before, place-after, getD-before, getD-after}
 use Rattle.ranks.specs.Entries.{labels}
-use Rattle.tables.specs.Seen.{places, levels, level-bytes, seen-bytes, counter, filled, advanced, state-at, stored, Found, remembered, Stored}
+use Rattle.tables.specs.Seen.{places, levels, level-bytes, seen-bytes, counter, filled, last-counter, advanced, state-at, stored, Found, remembered, Stored}
 
 -- a part that a place set lies outside of
 part-set : (l : List ℕ) (a n i v : ℕ) → a + n ≤ length l → (i < a) ⊎ (a + n ≤ i) → part a n (set l i v) ≡ part a n l
@@ -32,14 +32,14 @@ part-set l a n i v fits out = ext-getD 0 (part a n (set l i v)) (part a n l) (lo
 
 -- the places filled after one state more: the one just filled, and those that were
 filled-next : (n i : ℕ) → i < min (advanced n) places → (i ≡ n % places) ⊎ (i < min n places)
-filled-next n i h = go (ltb n 127) (ltb n places) refl refl h
+filled-next n i h = go (ltb n last-counter) (ltb n places) refl refl h
   where
-    go : (a b : Bool) → ltb n 127 ≡ a → ltb n places ≡ b → i < min (pick a (n + 1) places) places → (i ≡ n % places) ⊎ (i < min n places)
+    go : (a b : Bool) → ltb n last-counter ≡ a → ltb n places ≡ b → i < min (pick a (n + 1) places) places → (i ≡ n % places) ⊎ (i < min n places)
     go a true x y k = by-order ((i ≡ n % places) ⊎ (i < min n places)) i n (λ e. let l = ltb-true n places y in inl (omega arith)) (λ e. let l = ltb-true n places y in inr (omega arith)) (λ e. absurd (past a x y k e))
       where
-        past : (a : Bool) → ltb n 127 ≡ a → ltb n places ≡ true → i < min (pick a (n + 1) places) places → n < i → ⊥
+        past : (a : Bool) → ltb n last-counter ≡ a → ltb n places ≡ true → i < min (pick a (n + 1) places) places → n < i → ⊥
         past true x y k e = omega arith
-        past false x y k e = let l = ltb-true n places y in let m = ltb-false n 127 x in omega arith
+        past false x y k e = let l = ltb-true n places y in let m = ltb-false n last-counter x in omega arith
     go true false x y k = let l = ltb-false n places y in inr (omega arith)
     go false false x y k = let l = ltb-false n places y in inr (omega arith)
 

@@ -54,6 +54,11 @@ pub record ChildRank (f d : List ℕ) (v : Shape) (x : List ℕ) (j r : ℕ) : T
   pub there : j < v .arity → RankOn f d v (suc j) x r
   pub missing : v .arity ≤ j → r ≡ none
 
+-- the byte e is the rank of slot 0
+abbrev pub UpByte : (s c : List ℕ) → Shape → List ℕ → List ℕ → Type 0
+UpByte s c v x e = RankOn s c v 0 x (getD e 0 none)
+
+-- the bytes e are the labels, then the children's ranks
 pub record DownBytes (f d : List ℕ) (v : Shape) (x e : List ℕ) : Type 0 where
   pub blocks : take labels e ≡ tidied x
   pub ranks : (j : ℕ) → j < max-kids → ChildRank f d v x j (getD e (labels + j) none)
@@ -66,10 +71,10 @@ pub record ChildRanks (f d : List ℕ) (v : Shape) (x : List ℕ) (n : ℕ) (out
   pub held : out′ ≡ place a list out
   pub long : length out′ ≡ length out
 
--- an entry of the up table is the rank of slot 0; one of the down table the labels, then the children's ranks
-abbrev pub Entry : Table → (f d : List ℕ) → Shape → List ℕ → List ℕ → Type 0
-Entry Up f d v x e = RankOn f d v 0 x (getD e 0 none)
-Entry Down f d v x e = DownBytes f d v x e
+-- an entry of the up table has a rank among the plausible groupings s, counted by c; one of the down table ranks among the feasible ones f, counted by d
+abbrev pub Entry : Table → (s c f d : List ℕ) → Shape → List ℕ → List ℕ → Type 0
+Entry Up s c f d v x e = UpByte s c v x e
+Entry Down s c f d v x e = DownBytes f d v x e
 
 -- and takes so many places
 abbrev pub entry-size : Table → ℕ
@@ -77,9 +82,12 @@ entry-size Up = 1
 entry-size Down = entry-bytes
 
 -- what is to be ranked can be
-abbrev pub Rankable : Table → (f d : List ℕ) → Shape → List ℕ → Type 0
-Rankable Up f d v x = Listed f d v 0 x
-Rankable Down f d v x = (j : ℕ) → j < v .arity → Listed f d v (suc j) x
+abbrev pub ChildrenListed : (f d : List ℕ) → Shape → List ℕ → Type 0
+ChildrenListed f d v x = (j : ℕ) → j < v .arity → Listed f d v (suc j) x
+
+abbrev pub Rankable : Table → (s c f d : List ℕ) → Shape → List ℕ → Type 0
+Rankable Up s c f d v x = Listed s c v 0 x
+Rankable Down s c f d v x = ChildrenListed f d v x
 
 -- ── runs of entries ──
 -- l has n entries of w places each, of which the i-th has Q i
@@ -104,16 +112,15 @@ ByRanks c ks P i e = (rs : List ℕ) → Ranks c ks rs → choice c ks rs ≡ i 
 abbrev pub chosen : Shape → ℕ → (s ks rs x : List ℕ) → List ℕ
 chosen v t s ks rs x = tied v t (picked s ks rs) x
 
--- the entries of all choices for the slots from t on; s and c are chosen from, f and d ranked in
+-- the entries of all choices of plausible groupings for the slots from t on
 abbrev pub Choices : Table → Shape → ℕ → (s c f d ks x : List ℕ) → ℕ → List ℕ → Type 0
-Choices table v t s c f d ks x = ByRanks c ks (λ rs e. Entry table f d v (chosen v t s ks rs x) e)
+Choices table v t s c f d ks x = ByRanks c ks (λ rs e. Entry table s c f d v (chosen v t s ks rs x) e)
 
 -- what is asked before they are written
 pub record Asked (table : Table) (v : Shape) (t : ℕ) (s c f d x out : List ℕ) (a : ℕ) : Type 0 where
   pub standing : InPlace f d v x
   pub choose : AllPlaced v s c
-  pub within : t ≤ suc (v .arity)
-  pub rankable : (rs : List ℕ) → Ranks c (kinds-from v t) rs → Rankable table f d v (chosen v t s (kinds-from v t) rs x)
+  pub rankable : (rs : List ℕ) → Ranks c (kinds-from v t) rs → Rankable table s c f d v (chosen v t s (kinds-from v t) rs x)
   pub room : a + choices c (kinds-from v t) * entry-size table ≤ length out
 
 -- ── the entries of a production of the grammar ──
@@ -133,14 +140,14 @@ ByAllRanks n c ks P i e = (u : ℕ) (rs : List ℕ) → u < n → Ranks c ks rs 
 -- the entries of all choices for the children, for each member of the left kind in f
 abbrev pub AllChoices : Shape → (s c f d ks x : List ℕ) → ℕ → List ℕ → Type 0
 AllChoices v s c f d ks x =
-    ByAllRanks (getD d (kind-of v 0) 0) c ks (λ u rs e. Entry Down f d v (chosen v 1 s ks rs (tied-once v 0 (member f (kind-of v 0) u) x)) e)
+    ByAllRanks (getD d (kind-of v 0) 0) c ks (λ u rs e. Entry Down s c f d v (chosen v 1 s ks rs (tied-once v 0 (member f (kind-of v 0) u) x)) e)
 
 -- what is asked before they are written
 pub record AllAsked (v : Shape) (s c f d x out : List ℕ) (a : ℕ) : Type 0 where
   pub standing : InPlace f d v x
   pub choose : AllPlaced v s c
   pub rankable : (u : ℕ) (rs : List ℕ) → u < getD d (kind-of v 0) 0 → Ranks c (kinds-from v 1) rs
-      → Rankable Down f d v (chosen v 1 s (kinds-from v 1) rs (tied-once v 0 (member f (kind-of v 0) u) x))
+      → ChildrenListed f d v (chosen v 1 s (kinds-from v 1) rs (tied-once v 0 (member f (kind-of v 0) u) x))
   pub room : a + getD d (kind-of v 0) 0 * choices c (kinds-from v 1) * entry-size Down ≤ length out
 
 -- production p's entries of the down table, by their number among them

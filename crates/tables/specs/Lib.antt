@@ -1,6 +1,9 @@
+-- what the promise of the build says, and what it cites
 pub mod Sets
 pub mod Entries
 pub mod Promise
+pub mod Answer
+-- no promise cites these: they serve the contracts of the inner functions
 pub mod Memory
 pub mod State
 pub mod Seen
@@ -8,8 +11,7 @@ pub mod Visit
 pub mod Turns
 pub mod Sweep
 pub mod Upward
-pub mod Shape
-pub mod Fill
-pub mod Answer
-pub mod Making
 pub mod Downward
+pub mod Shape
+pub mod Making
+pub mod Fill

@@ -8,7 +8,7 @@ use Rattle.lists.specs.Rising.{Rising}
 use Rattle.chains.specs.Limits.{max-members}
 use Rattle.members.specs.Sets.{members, Has, member}
 
--- 65 different numbers have P for one of the first n kinds
+-- one more different numbers than a set can hold have P for one of the first n kinds
 pub record Over (n : ℕ) (P : ℕ → ℕ → Type 0) : Type 0 where
   pub kind : ℕ
   pub below : kind < n

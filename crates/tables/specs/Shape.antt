@@ -28,6 +28,10 @@ width-of v t = getD (v .widths) t 0
 unfoldable pub kinds-from : Shape → ℕ → List ℕ
 kinds-from v t = labelling.labels-by (kind-of v) t (suc (v .arity) - t)
 
+-- the first of the last n slots
+abbrev pub first-of : Shape → ℕ → ℕ
+first-of v n = suc (v .arity) - n
+
 -- v is the shape of the production whose entry stands at `at`
 pub record ShapeAt (b : List ℕ) (at : ℕ) (v : Shape) : Type 0 where
   pub arity : v .arity ≡ arity-at b at

@@ -59,7 +59,7 @@ pub record Exact (n : ℕ) (P : ℕ → ℕ → Type 0) (s c : List ℕ) : Type 
   pub fine : Fine n P s c
   pub whole : (k x : ℕ) → k < n → P k x → Has s c k x
 
--- what a pass leaves: the sets hold exactly what has P, or there are 65
+-- what a pass leaves: the sets hold exactly what has P, or there is one more than a set can hold
 pub record Outcome (n : ℕ) (P : ℕ → ℕ → Type 0) (s c s′ c′ : List ℕ) (r : Bool) : Type 0 where
   pub holds : r ≡ true → Holds n P s c s′ c′
   pub over : r ≡ false → Over n P

@@ -49,7 +49,7 @@ fn open_down(
     lists: &mut [u32],
 ) -> Visit
     requires { ⌜ (j < max-turns) × (length (now lists) ≡ max-turns * max-members)
-        × Placed (given (now feasible) (now plausible) (slot-down t j)) (given (now tally) (now counts) (slot-down t j)) (kind-in (now book) at (slot-down t j)) ⌝ }
+        × Placed (now plausible) (now counts) (kind-in (now book) at (slot-down t j)) × Placed (now feasible) (now tally) (kind-in (now book) at (slot-down t j)) ⌝ }
     ensures { λ r. ⌜ Opened (now (book .entry)) at (given (now (feasible .entry)) (now (plausible .entry)) (slot-down t j))
         (given (now (tally .entry)) (now (counts .entry)) (slot-down t j)) v j (slot-down t j) (now (lists .entry)) r (now (lists .exit)) ⌝ }
 {
@@ -258,7 +258,7 @@ fn seed(book: &[u8], plausible: &[u32], counts: &[u8], feasible: &mut [u32], tal
     tally[k] = n;
 }
 
-// The feasible groupings of every kind, from the plausible ones; false where some kind has over 64 of them. Whatever stood in the sets before decides
+// The feasible groupings of every kind, from the plausible ones; false where some kind has more than a set can hold. Whatever stood in the sets before decides
 // nothing.
 pub fn downward(
     book: &[u8],

@@ -4,9 +4,9 @@ ghost use Prim.Native.Nat.{suc, _+_, _<_, _≤_};
 ghost use lib.ListN.{length};
 ghost use Rattle.lists.specs.Part.{place};
 ghost use Rattle.chains.specs.Limits.{max-kids};
-ghost use Rattle.ranks.specs.Entries.{labels};
+ghost use Rattle.ranks.specs.Entries.{labels, entry-bytes};
 ghost use Rattle.tables.specs.State.{State, tidied};
-ghost use Rattle.tables.specs.Fill.{InPlace, Listed, RankOn, ChildRank, ChildRanks, Rankable, Entry, entry-size, EntriesLaid};
+ghost use Rattle.tables.specs.Fill.{InPlace, Listed, RankOn, ChildRank, ChildRanks, UpByte, DownBytes, ChildrenListed, Rankable, Entry, entry-size, EntriesLaid};
 use super::labels::LABELS;
 use super::labels::NONE;
 use super::labels::tidy;
@@ -14,6 +14,8 @@ use super::labels::view;
 use super::sets::MAX_MEMBERS;
 use super::shape::Shape;
 use ranks::ENTRY;
+use ranks::Feasible;
+use ranks::Plausible;
 
 // Which table an entry belongs to.
 pub enum Table {
@@ -23,7 +25,7 @@ pub enum Table {
 
 const CHILDREN: usize = book::limits::MAX_CHILDREN as usize;
 
-// The rank of the code that the state shows on a slot.
+// The place of the code that the state shows on a slot, among the members of the slot's kind: what both kinds of rank are.
 fn rank_on(v: Shape, slot: usize, s: &[u8; LABELS], sets: &[u32], counts: &[u8]) -> u8
     requires { ⌜ InPlace (now sets) (now counts) v (now s) × (slot ≤ v .arity) × Listed (now sets) (now counts) v slot (now s) ⌝ }
     ensures { λ r. ⌜ RankOn (now (sets .entry)) (now (counts .entry)) v slot (now (s .entry)) r ⌝ }
@@ -33,25 +35,34 @@ fn rank_on(v: Shape, slot: usize, s: &[u8; LABELS], sets: &[u32], counts: &[u8])
     members::place_of(sets, kind * MAX_MEMBERS, counts[kind] as usize, code) as u8
 }
 
-// The rank of a child, from 0 on; NONE where there is no such child.
-fn child_rank(v: Shape, j: usize, s: &[u8; LABELS], sets: &[u32], counts: &[u8]) -> u8
-    requires { ⌜ InPlace (now sets) (now counts) v (now s) × (j < v .arity → Listed (now sets) (now counts) v (suc j) (now s)) ⌝ }
-    ensures { λ r. ⌜ ChildRank (now (sets .entry)) (now (counts .entry)) v (now (s .entry)) j r ⌝ }
+// The plausible rank of what the state shows on slot 0.
+fn plausible_rank(v: Shape, s: &[u8; LABELS], plausible: &[u32], counts: &[u8]) -> Plausible
+    requires { ⌜ InPlace (now plausible) (now counts) v (now s) × Listed (now plausible) (now counts) v 0 (now s) ⌝ }
+    ensures { λ r. ⌜ RankOn (now (plausible .entry)) (now (counts .entry)) v 0 (now (s .entry)) (r .0) ⌝ }
+{
+    Plausible(rank_on(v, 0, s, plausible, counts))
+}
+
+// The feasible rank of what the state shows on a child, from 0 on; NONE where there is no such child.
+fn feasible_rank(v: Shape, j: usize, s: &[u8; LABELS], feasible: &[u32], tally: &[u8]) -> Feasible
+    requires { ⌜ InPlace (now feasible) (now tally) v (now s) × (j < v .arity → Listed (now feasible) (now tally) v (suc j) (now s)) ⌝ }
+    ensures { λ r. ⌜ ChildRank (now (feasible .entry)) (now (tally .entry)) v (now (s .entry)) j (r .0) ⌝ }
 {
     if v.arity as usize <= j {
-        return NONE;
+        return Feasible(NONE);
     }
-    rank_on(v, j + 1, s, sets, counts)
+    Feasible(rank_on(v, j + 1, s, feasible, tally))
 }
 
 // The ranks of all children.
-fn put_ranks(v: Shape, s: &[u8; LABELS], sets: &[u32], counts: &[u8], out: &mut [u8], at: usize)
-    requires { ⌜ InPlace (now sets) (now counts) v (now s) × Rankable Table.Down (now sets) (now counts) v (now s) × (at + max-kids ≤ length (now out)) ⌝ }
-    ensures { λ _. ⌜ ChildRanks (now (sets .entry)) (now (counts .entry)) v (now (s .entry)) max-kids (now (out .entry)) at (now (out .exit)) ⌝ }
+fn put_ranks(v: Shape, s: &[u8; LABELS], feasible: &[u32], tally: &[u8], out: &mut [u8], at: usize)
+    requires { ⌜ InPlace (now feasible) (now tally) v (now s) × ChildrenListed (now feasible) (now tally) v (now s) × (at + max-kids ≤ length (now out)) ⌝ }
+    ensures { λ _. ⌜ ChildRanks (now (feasible .entry)) (now (tally .entry)) v (now (s .entry)) max-kids (now (out .entry)) at (now (out .exit)) ⌝ }
 {
     let mut j = 0;
     while j < CHILDREN {
-        out[at + j] = child_rank(v, j, s, sets, counts);
+        let r = feasible_rank(v, j, s, feasible, tally);
+        out[at + j] = r.0;
         j += 1;
     }
 }
@@ -66,36 +77,37 @@ fn put_labels(s: &[u8; LABELS], out: &mut [u8], at: usize)
     slices::lay(out, at, &t);
 }
 
-// An up entry: the rank of what the state shows on slot 0. The answer is the place behind it.
+// An up entry: the plausible rank of what the state shows on slot 0. The answer is the place behind it.
 fn put_up(
     v: Shape,
     s: &[u8; LABELS],
-    sets: &[u32],
+    plausible: &[u32],
     counts: &[u8],
     out: &mut [u8],
     at: usize,
 ) -> usize
-    requires { ⌜ InPlace (now sets) (now counts) v (now s) × Rankable Table.Up (now sets) (now counts) v (now s) × (at + entry-size Table.Up ≤ length (now out)) ⌝ }
-    ensures { λ r. ⌜ EntriesLaid (entry-size Table.Up) 1 (λ i e. Entry Table.Up (now (sets .entry)) (now (counts .entry)) v (now (s .entry)) e) (now (out .entry)) at (now (out .exit)) r ⌝ }
+    requires { ⌜ InPlace (now plausible) (now counts) v (now s) × Listed (now plausible) (now counts) v 0 (now s) × (at + 1 ≤ length (now out)) ⌝ }
+    ensures { λ r. ⌜ EntriesLaid 1 1 (λ i e. UpByte (now (plausible .entry)) (now (counts .entry)) v (now (s .entry)) e) (now (out .entry)) at (now (out .exit)) r ⌝ }
 {
-    out[at] = rank_on(v, 0, s, sets, counts);
+    let r = plausible_rank(v, s, plausible, counts);
+    out[at] = r.0;
     at + 1
 }
 
-// A down entry: the labels, then the children's ranks.
+// A down entry: the labels, then the children's feasible ranks.
 fn put_down(
     v: Shape,
     s: &[u8; LABELS],
-    sets: &[u32],
-    counts: &[u8],
+    feasible: &[u32],
+    tally: &[u8],
     out: &mut [u8],
     at: usize,
 ) -> usize
-    requires { ⌜ InPlace (now sets) (now counts) v (now s) × Rankable Table.Down (now sets) (now counts) v (now s) × (at + entry-size Table.Down ≤ length (now out)) ⌝ }
-    ensures { λ r. ⌜ EntriesLaid (entry-size Table.Down) 1 (λ i e. Entry Table.Down (now (sets .entry)) (now (counts .entry)) v (now (s .entry)) e) (now (out .entry)) at (now (out .exit)) r ⌝ }
+    requires { ⌜ InPlace (now feasible) (now tally) v (now s) × ChildrenListed (now feasible) (now tally) v (now s) × (at + entry-bytes ≤ length (now out)) ⌝ }
+    ensures { λ r. ⌜ EntriesLaid entry-bytes 1 (λ i e. DownBytes (now (feasible .entry)) (now (tally .entry)) v (now (s .entry)) e) (now (out .entry)) at (now (out .exit)) r ⌝ }
 {
     put_labels(s, out, at);
-    put_ranks(v, s, sets, counts, out, at + LABELS);
+    put_ranks(v, s, feasible, tally, out, at + LABELS);
     at + ENTRY
 }
 
@@ -104,16 +116,20 @@ pub fn put_entry(
     table: Table,
     v: Shape,
     s: &[u8; LABELS],
-    sets: &[u32],
+    plausible: &[u32],
     counts: &[u8],
+    feasible: &[u32],
+    tally: &[u8],
     out: &mut [u8],
     at: usize,
 ) -> usize
-    requires { ⌜ InPlace (now sets) (now counts) v (now s) × Rankable table (now sets) (now counts) v (now s) × (at + entry-size table ≤ length (now out)) ⌝ }
-    ensures { λ r. ⌜ EntriesLaid (entry-size table) 1 (λ i e. Entry table (now (sets .entry)) (now (counts .entry)) v (now (s .entry)) e) (now (out .entry)) at (now (out .exit)) r ⌝ }
+    requires { ⌜ InPlace (now plausible) (now counts) v (now s) × InPlace (now feasible) (now tally) v (now s)
+        × Rankable table (now plausible) (now counts) (now feasible) (now tally) v (now s) × (at + entry-size table ≤ length (now out)) ⌝ }
+    ensures { λ r. ⌜ EntriesLaid (entry-size table) 1
+        (λ i e. Entry table (now (plausible .entry)) (now (counts .entry)) (now (feasible .entry)) (now (tally .entry)) v (now (s .entry)) e) (now (out .entry)) at (now (out .exit)) r ⌝ }
 {
     match table {
-        Table::Up => put_up(v, s, sets, counts, out, at),
-        Table::Down => put_down(v, s, sets, counts, out, at),
+        Table::Up => put_up(v, s, plausible, counts, out, at),
+        Table::Down => put_down(v, s, feasible, tally, out, at),
     }
 }

@@ -4,15 +4,13 @@ ghost use mathlib.Core.Path.{_≡_};
 ghost use Prim.Native.Nat.{_+_, _*_, _<_, _≤_};
 ghost use lib.ListN.{length, getD};
 ghost use Rattle.chains.specs.Limits.{max-kids, max-members};
-ghost use Rattle.chains.specs.Plausible.{Plausible};
-ghost use Rattle.chains.specs.Feasible.{Feasible};
-ghost use Rattle.book.specs.Format.{kinds, prods, grammar};
+ghost use Rattle.book.specs.Format.{prods, grammar};
 ghost use Rattle.ranks.specs.Entries.{choices, entry-bytes};
 ghost use Rattle.members.specs.Sets.{member};
 ghost use Rattle.tables.specs.Entries.{UpTable, DownTable};
 ghost use Rattle.tables.specs.Promise.{up-entries, down-entries, Written};
-ghost use Rattle.tables.specs.Shape.{kind-of, kinds-from, Sized, Opened};
-ghost use Rattle.tables.specs.Sweep.{Exact};
+ghost use Rattle.tables.specs.Shape.{kind-of, kinds-from, first-of, Sized, Opened};
+ghost use Rattle.tables.specs.Making.{Settled};
 ghost use Rattle.tables.specs.Fill.{Ready, tied-once, entry-size, EntriesLaid, Choices, Asked, AllAsked, AllChoices, UpRun, DownRun};
 use super::entry::Table;
 use super::entry::put_entry;
@@ -23,21 +21,23 @@ use super::labels::tie;
 use super::sets::MAX_MEMBERS;
 use super::shape::Shape;
 use super::shape::shape_of;
+use ranks::Feasible;
+use ranks::Plausible;
 
 const PRODUCTIONS: usize = book::limits::MAX_PRODUCTIONS as usize;
 
 // ---- the entries of a production
 
 // The number of members that a slot has to choose from.
-fn members_on(v: Shape, slot: u8, counts: &[u8]) -> usize
+fn members_on(v: Shape, slot: u8, counts: &[u8]) -> u8
     requires { ⌜ (v .arity ≤ max-kids) × (slot ≤ v .arity) × (kind-of v slot < length (now counts)) ⌝ }
     ensures { λ r. ⌜ r ≡ getD (now (counts .entry)) (kind-of v slot) 0 ⌝ }
 {
-    counts[v.kinds[slot as usize] as usize] as usize
+    counts[v.kinds[slot as usize] as usize]
 }
 
-// The state s with a member tied to a slot.
-fn tie_member(v: Shape, slot: u8, r: usize, sets: &[u32], s: &[u8; LABELS]) -> [u8; LABELS]
+// The state s with the r-th member of a slot's kind tied to the slot: what both kinds of rank stand for.
+fn tie_member(v: Shape, slot: u8, r: u8, sets: &[u32], s: &[u8; LABELS]) -> [u8; LABELS]
     requires { ⌜ Sized v × Ready v (now s) × (slot ≤ v .arity) × (kind-of v slot * max-members + r < length (now sets)) ⌝ }
     ensures { λ t. ⌜ t ≡ tied-once v slot (member (now (sets .entry)) (kind-of v slot) r) (now (s .entry)) ⌝ }
 {
@@ -47,72 +47,108 @@ fn tie_member(v: Shape, slot: u8, r: usize, sets: &[u32], s: &[u8; LABELS]) -> [
         &mut t,
         slot,
         v.widths[i],
-        sets[v.kinds[i] as usize * MAX_MEMBERS + r],
+        sets[v.kinds[i] as usize * MAX_MEMBERS + r as usize],
     );
     t
 }
 
-// The entries of all choices for the slots from `slot` on, in order; the answer is the place behind them.
+// The grouping with a plausible rank, tied to a child.
+fn tie_plausible(
+    v: Shape,
+    slot: u8,
+    r: Plausible,
+    plausible: &[u32],
+    s: &[u8; LABELS],
+) -> [u8; LABELS]
+    requires { ⌜ Sized v × Ready v (now s) × (slot ≤ v .arity) × (kind-of v slot * max-members + r .0 < length (now plausible)) ⌝ }
+    ensures { λ t. ⌜ t ≡ tied-once v slot (member (now (plausible .entry)) (kind-of v slot) (r .0)) (now (s .entry)) ⌝ }
+{
+    tie_member(v, slot, r.0, plausible, s)
+}
+
+// The grouping with a feasible rank, tied to the left kind.
+fn tie_feasible(v: Shape, r: Feasible, feasible: &[u32], s: &[u8; LABELS]) -> [u8; LABELS]
+    requires { ⌜ Sized v × Ready v (now s) × (kind-of v 0 * max-members + r .0 < length (now feasible)) ⌝ }
+    ensures { λ t. ⌜ t ≡ tied-once v 0 (member (now (feasible .entry)) (kind-of v 0) (r .0)) (now (s .entry)) ⌝ }
+{
+    tie_member(v, 0, r.0, feasible, s)
+}
+
+// The entries of all choices for the last `left` children, in order: the first of them is chosen for first, so that its rank counts most. The answer
+// is the place behind the entries.
 fn lay(
     table: Table,
     v: Shape,
-    slot: u8,
+    left: u8,
     s: &[u8; LABELS],
-    sets: &[u32],
+    plausible: &[u32],
     counts: &[u8],
-    ranked: &[u32],
-    sizes: &[u8],
+    feasible: &[u32],
+    tally: &[u8],
     out: &mut [u8],
     at: usize,
 ) -> usize
-    requires { ⌜ Asked table v slot (now sets) (now counts) (now ranked) (now sizes) (now s) (now out) at ⌝ }
-    ensures { λ r. ⌜ EntriesLaid (entry-size table) (choices (now (counts .entry)) (kinds-from v slot))
-        (Choices table v slot (now (sets .entry)) (now (counts .entry)) (now (ranked .entry)) (now (sizes .entry)) (kinds-from v slot) (now (s .entry)))
+    requires { ⌜ (left ≤ v .arity) × Asked table v (first-of v left) (now plausible) (now counts) (now feasible) (now tally) (now s) (now out) at ⌝ }
+    ensures { λ r. ⌜ EntriesLaid (entry-size table) (choices (now (counts .entry)) (kinds-from v (first-of v left)))
+        (Choices table v (first-of v left) (now (plausible .entry)) (now (counts .entry)) (now (feasible .entry)) (now (tally .entry)) (kinds-from v (first-of v left)) (now (s .entry)))
         (now (out .entry)) at (now (out .exit)) r ⌝ }
 {
-    if v.arity < slot {
-        return put_entry(table, v, s, ranked, sizes, out, at);
+    if left == 0 {
+        return put_entry(table, v, s, plausible, counts, feasible, tally, out, at);
     }
+    let last = v.arity;
+    let slot = last + 1 - left;
     let n = members_on(v, slot, counts);
     let mut to = at;
     let mut r = 0;
     while r < n {
-        let t = tie_member(v, slot, r, sets, s);
-        to = lay(table, v, slot + 1, &t, sets, counts, ranked, sizes, out, to);
+        let t = tie_plausible(v, slot, Plausible(r), plausible, s);
+        to = lay(
+            table,
+            v,
+            left - 1,
+            &t,
+            plausible,
+            counts,
+            feasible,
+            tally,
+            out,
+            to,
+        );
         r += 1;
     }
     to
 }
 
-// The entries of all choices for the children, for each member of the left kind, in order; the answer is the place behind them.
+// The entries of all choices for the children, for each feasible grouping of the left kind, in order; the answer is the place behind them.
 fn lay_down(
     v: Shape,
     s: &[u8; LABELS],
-    sets: &[u32],
+    plausible: &[u32],
     counts: &[u8],
     feasible: &[u32],
-    sizes: &[u8],
+    tally: &[u8],
     out: &mut [u8],
     at: usize,
 ) -> usize
-    requires { ⌜ AllAsked v (now sets) (now counts) (now feasible) (now sizes) (now s) (now out) at ⌝ }
-    ensures { λ r. ⌜ EntriesLaid (entry-size Table.Down) (getD (now (sizes .entry)) (kind-of v 0) 0 * choices (now (counts .entry)) (kinds-from v 1))
-        (AllChoices v (now (sets .entry)) (now (counts .entry)) (now (feasible .entry)) (now (sizes .entry)) (kinds-from v 1) (now (s .entry))) (now (out .entry)) at (now (out .exit)) r ⌝ }
+    requires { ⌜ AllAsked v (now plausible) (now counts) (now feasible) (now tally) (now s) (now out) at ⌝ }
+    ensures { λ r. ⌜ EntriesLaid entry-bytes (getD (now (tally .entry)) (kind-of v 0) 0 * choices (now (counts .entry)) (kinds-from v 1))
+        (AllChoices v (now (plausible .entry)) (now (counts .entry)) (now (feasible .entry)) (now (tally .entry)) (kinds-from v 1) (now (s .entry))) (now (out .entry)) at (now (out .exit)) r ⌝ }
 {
-    let n = members_on(v, 0, sizes);
+    let n = members_on(v, 0, tally);
     let mut to = at;
     let mut u = 0;
     while u < n {
-        let t = tie_member(v, 0, u, feasible, s);
+        let t = tie_feasible(v, Feasible(u), feasible, s);
         to = lay(
             Table::Down,
             v,
-            1,
+            v.arity,
             &t,
-            sets,
+            plausible,
             counts,
             feasible,
-            sizes,
+            tally,
             out,
             to,
         );
@@ -128,41 +164,56 @@ fn up_run(
     book: &[u8],
     places: &[usize; PRODUCTIONS],
     p: usize,
-    sets: &[u32],
+    plausible: &[u32],
     counts: &[u8],
+    feasible: &[u32],
+    tally: &[u8],
     up: &mut [u8],
     at: usize,
 ) -> usize
-    requires { ⌜ Opened (now book) (now places) × (p < prods (now book)) × Exact (kinds (now book)) (Plausible (grammar (now book))) (now sets) (now counts)
+    requires { ⌜ Opened (now book) (now places) × (p < prods (now book)) × Settled (now book) (now plausible) (now counts) (now feasible) (now tally)
         × (at + choices (now counts) (grammar (now book) .kids p) ≤ length (now up)) ⌝ }
-    ensures { λ r. ⌜ EntriesLaid (entry-size Table.Up) (choices (now (counts .entry)) (grammar (now (book .entry)) .kids p))
-        (UpRun (grammar (now (book .entry))) (now (sets .entry)) (now (counts .entry)) p) (now (up .entry)) at (now (up .exit)) r ⌝ }
+    ensures { λ r. ⌜ EntriesLaid 1 (choices (now (counts .entry)) (grammar (now (book .entry)) .kids p))
+        (UpRun (grammar (now (book .entry))) (now (plausible .entry)) (now (counts .entry)) p) (now (up .entry)) at (now (up .exit)) r ⌝ }
 {
     let entry = places[p];
     let v = shape_of(book, entry);
     let mut s = [NONE; LABELS];
     base(book, entry, &mut s);
-    lay(Table::Up, v, 1, &s, sets, counts, sets, counts, up, at)
+    lay(
+        Table::Up,
+        v,
+        v.arity,
+        &s,
+        plausible,
+        counts,
+        feasible,
+        tally,
+        up,
+        at,
+    )
 }
 
 // Every up entry, one production behind another. What stands behind them stays as it came.
 pub fn fill_up(
     book: &[u8],
     places: &[usize; PRODUCTIONS],
-    sets: &[u32],
+    plausible: &[u32],
     counts: &[u8],
+    feasible: &[u32],
+    tally: &[u8],
     up: &mut [u8],
 )
-    requires { ⌜ Opened (now book) (now places) × Exact (kinds (now book)) (Plausible (grammar (now book))) (now sets) (now counts)
+    requires { ⌜ Opened (now book) (now places) × Settled (now book) (now plausible) (now counts) (now feasible) (now tally)
         × (up-entries (grammar (now book)) (now counts) ≤ length (now up)) ⌝ }
-    ensures { λ _. ⌜ UpTable (grammar (now (book .entry))) (now (sets .entry)) (now (counts .entry)) (now (up .exit))
+    ensures { λ _. ⌜ UpTable (grammar (now (book .entry))) (now (plausible .entry)) (now (counts .entry)) (now (up .exit))
         × Written (up-entries (grammar (now (book .entry))) (now (counts .entry))) (now (up .entry)) (now (up .exit)) ⌝ }
 {
     let n = book::productions(book) as usize;
     let mut at = 0;
     let mut p = 0;
     while p < n {
-        at = up_run(book, places, p, sets, counts, up, at);
+        at = up_run(book, places, p, plausible, counts, feasible, tally, up, at);
         p += 1;
     }
 }
@@ -174,47 +225,55 @@ fn down_run(
     book: &[u8],
     places: &[usize; PRODUCTIONS],
     p: usize,
-    sets: &[u32],
+    plausible: &[u32],
     counts: &[u8],
     feasible: &[u32],
-    sizes: &[u8],
+    tally: &[u8],
     down: &mut [u8],
     at: usize,
 ) -> usize
-    requires { ⌜ Opened (now book) (now places) × (p < prods (now book)) × Exact (kinds (now book)) (Plausible (grammar (now book))) (now sets) (now counts)
-        × Exact (kinds (now book)) (Feasible (grammar (now book))) (now feasible) (now sizes)
-        × (at + getD (now sizes) (grammar (now book) .left p) 0 * choices (now counts) (grammar (now book) .kids p) * entry-bytes ≤ length (now down)) ⌝ }
-    ensures { λ r. ⌜ EntriesLaid entry-bytes (getD (now (sizes .entry)) (grammar (now (book .entry)) .left p) 0 * choices (now (counts .entry)) (grammar (now (book .entry)) .kids p))
-        (DownRun (grammar (now (book .entry))) (now (sets .entry)) (now (counts .entry)) (now (feasible .entry)) (now (sizes .entry)) p) (now (down .entry)) at (now (down .exit)) r ⌝ }
+    requires { ⌜ Opened (now book) (now places) × (p < prods (now book)) × Settled (now book) (now plausible) (now counts) (now feasible) (now tally)
+        × (at + getD (now tally) (grammar (now book) .left p) 0 * choices (now counts) (grammar (now book) .kids p) * entry-bytes ≤ length (now down)) ⌝ }
+    ensures { λ r. ⌜ EntriesLaid entry-bytes (getD (now (tally .entry)) (grammar (now (book .entry)) .left p) 0 * choices (now (counts .entry)) (grammar (now (book .entry)) .kids p))
+        (DownRun (grammar (now (book .entry))) (now (plausible .entry)) (now (counts .entry)) (now (feasible .entry)) (now (tally .entry)) p) (now (down .entry)) at (now (down .exit)) r ⌝ }
 {
     let entry = places[p];
     let v = shape_of(book, entry);
     let mut s = [NONE; LABELS];
     base(book, entry, &mut s);
-    lay_down(v, &s, sets, counts, feasible, sizes, down, at)
+    lay_down(v, &s, plausible, counts, feasible, tally, down, at)
 }
 
 // Every down entry, one production behind another. What stands behind them stays as it came.
 pub fn fill_down(
     book: &[u8],
     places: &[usize; PRODUCTIONS],
-    sets: &[u32],
+    plausible: &[u32],
     counts: &[u8],
     feasible: &[u32],
-    sizes: &[u8],
+    tally: &[u8],
     down: &mut [u8],
 )
-    requires { ⌜ Opened (now book) (now places) × Exact (kinds (now book)) (Plausible (grammar (now book))) (now sets) (now counts)
-        × Exact (kinds (now book)) (Feasible (grammar (now book))) (now feasible) (now sizes)
-        × (down-entries (grammar (now book)) (now counts) (now sizes) * entry-bytes ≤ length (now down)) ⌝ }
-    ensures { λ _. ⌜ DownTable (grammar (now (book .entry))) (now (sets .entry)) (now (counts .entry)) (now (feasible .entry)) (now (sizes .entry)) (now (down .exit))
-        × Written (down-entries (grammar (now (book .entry))) (now (counts .entry)) (now (sizes .entry)) * entry-bytes) (now (down .entry)) (now (down .exit)) ⌝ }
+    requires { ⌜ Opened (now book) (now places) × Settled (now book) (now plausible) (now counts) (now feasible) (now tally)
+        × (down-entries (grammar (now book)) (now counts) (now tally) * entry-bytes ≤ length (now down)) ⌝ }
+    ensures { λ _. ⌜ DownTable (grammar (now (book .entry))) (now (plausible .entry)) (now (counts .entry)) (now (feasible .entry)) (now (tally .entry)) (now (down .exit))
+        × Written (down-entries (grammar (now (book .entry))) (now (counts .entry)) (now (tally .entry)) * entry-bytes) (now (down .entry)) (now (down .exit)) ⌝ }
 {
     let n = book::productions(book) as usize;
     let mut at = 0;
     let mut p = 0;
     while p < n {
-        at = down_run(book, places, p, sets, counts, feasible, sizes, down, at);
+        at = down_run(
+            book,
+            places,
+            p,
+            plausible,
+            counts,
+            feasible,
+            tally,
+            down,
+            at,
+        );
         p += 1;
     }
 }

@@ -66,7 +66,7 @@ fn write_tables(
             place: 0,
         };
     }
-    fill_up(book, places, plausible, counts, up);
+    fill_up(book, places, plausible, counts, feasible, tally, up);
     fill_down(book, places, plausible, counts, feasible, tally, down);
     Built::Accepted {
         up: ups,

@@ -12,6 +12,11 @@ use super::labels::same_state;
 // States for each number of turns left.
 const PLACES: usize = 64;
 
+// The counter where all places are filled, and the one after which it is that again.
+const FILLED: u8 = PLACES as u8;
+
+const LAST: u8 = 2 * FILLED - 1;
+
 // From no turn left to a turn for each slot.
 const LEVELS: usize = 2 + book::limits::MAX_CHILDREN as usize;
 
@@ -31,7 +36,7 @@ fn filled(counter: u8) -> usize
 fn advanced(counter: u8) -> u8
     ensures { λ r. ⌜ r ≡ advanced counter ⌝ }
 {
-    if counter < 127 { counter + 1 } else { 64 }
+    if counter < LAST { counter + 1 } else { FILLED }
 }
 
 // Whether the state s stands at a level.

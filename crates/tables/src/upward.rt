@@ -144,7 +144,7 @@ fn close_up(book: &[u8], places: &[usize], sets: &mut [u32], counts: &mut [u8]) 
     }
 }
 
-// The plausible groupings of every kind; false where some kind has over 64 of them. Whatever stood in the sets before decides nothing.
+// The plausible groupings of every kind; false where some kind has more than a set can hold. Whatever stood in the sets before decides nothing.
 pub fn upward(book: &[u8], places: &[usize], sets: &mut [u32], counts: &mut [u8]) -> bool
     requires { ⌜ Accepted (now book) × Index (now book) (now places) × (kinds (now book) * max-members ≤ length (now sets)) × (kinds (now book) ≤ length (now counts)) ⌝ }
     ensures { λ r. ⌜ Outcome (kinds (now (book .entry))) (Plausible (grammar (now (book .entry))))

@@ -9,6 +9,7 @@ use generate::requests::number_request;
 use generate::swaps::{swap, Swap};
 use oracle::book::check_book;
 use oracle::chains::{first_settings, same_sharing};
+use oracle::limits::SETTINGS;
 use oracle::sheet::{read_sheet, settings_at};
 
 /// An accepted answer of the sheet call, read back from its lines.
@@ -58,7 +59,7 @@ pub fn kept(swap: &Swap, old: &Answer, new: &Answer) -> bool {
 /// The sheet call for the vehicle before and after.
 pub fn requests(swap: &Swap) -> [Vec<u8>; 2] {
     [&swap.old, &swap.new].map(|sheet| {
-        let (nodes, groups) = (vec![9; 3 * sheet.len()], vec![9; 8 * sheet.len()]);
+        let (nodes, groups) = (vec![9; 3 * sheet.len()], vec![9; SETTINGS * sheet.len()]);
         number_request(&swap.book, sheet, &swap.tables, &nodes, &groups)
     })
 }

@@ -1,5 +1,6 @@
 //! What a run has reached: each refusal, and the number of groups.
 
+use oracle::limits::{SETTINGS, SHEET};
 use std::collections::BTreeMap;
 
 /// What a run has to reach: these refusals, and so many groups.
@@ -8,9 +9,11 @@ pub struct Wanted {
     groups: usize,
 }
 
-/// Of the programs every refusal, and the most groups that there can be, eight at each of 4,096 nodes.
-pub const OF_PROGRAMS: Wanted =
-    Wanted { refusals: &[1, 2, 3, 4, 5, 6, 7, 8, 9, 10, 11, 12, 13, 20, 21, 22, 23, 24, 25, 30], groups: 32_768 };
+/// Of the programs every refusal, and the most groups that there can be, each setting of each node alone.
+pub const OF_PROGRAMS: Wanted = Wanted {
+    refusals: &[1, 2, 3, 4, 5, 6, 7, 8, 9, 10, 11, 12, 13, 20, 21, 22, 23, 24, 25, 30],
+    groups: SETTINGS * SHEET,
+};
 
 /// Of the checks that C calls.
 pub const OF_CHECKS: Wanted = Wanted { refusals: &[1, 2, 3, 4, 5, 6, 7, 8, 20, 21, 22, 23, 30], groups: 0 };

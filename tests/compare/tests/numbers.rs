@@ -7,6 +7,7 @@ use generate::{lawful, limits, sheets};
 use oracle::book::{check_book, Grammar};
 use oracle::chains::{chains, first_settings, same_sharing};
 use oracle::figure::grouping_of_tree;
+use oracle::limits::{SETTINGS, SHEET};
 use oracle::passes::sets;
 use oracle::sheet::{read_sheet, settings_at, Node};
 use oracle::ties::code_of;
@@ -34,7 +35,7 @@ fn vehicles(seed: u64, count: u64) -> Vec<Vehicle> {
 }
 
 fn numbered(vehicle: &Vehicle, tables: &Tables) -> (Vec<u64>, Vec<u16>, usize) {
-    let (mut places, mut groups) = (vec![0; 3 * vehicle.nodes.len()], vec![0; 8 * vehicle.nodes.len()]);
+    let (mut places, mut groups) = (vec![0; 3 * vehicle.nodes.len()], vec![0; SETTINGS * vehicle.nodes.len()]);
     let (_, settings, count) = number_sheet(&vehicle.book, &vehicle.sheet, tables, &mut places, &mut groups).unwrap();
     groups.truncate(settings);
     (places, groups, count)
@@ -88,10 +89,13 @@ fn end(nodes: &[Node], node: usize) -> usize {
 
 #[test]
 fn numbers_up_to_32_767() {
-    let book = limits::apart(8).bytes();
-    let (sheet, tables) = (sheets::apart(4096), built(&book).unwrap());
-    let (mut places, mut groups) = (vec![0; 3 * 4096], vec![0; 32_768]);
-    assert_eq!(number_sheet(&book, &sheet, &tables, &mut places, &mut groups), Ok((4096, 32_768, 32_768)));
+    let book = limits::apart(SETTINGS as u8).bytes();
+    let (sheet, tables) = (sheets::apart(SHEET), built(&book).unwrap());
+    let (mut places, mut groups) = (vec![0; 3 * SHEET], vec![0; SETTINGS * SHEET]);
+    assert_eq!(
+        number_sheet(&book, &sheet, &tables, &mut places, &mut groups),
+        Ok((SHEET, SETTINGS * SHEET, SETTINGS * SHEET))
+    );
     groups.sort();
     assert!(groups.iter().enumerate().all(|(place, &number)| place == number as usize));
 }

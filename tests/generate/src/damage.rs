@@ -3,6 +3,7 @@
 use crate::chance::Chance;
 use crate::lawful;
 use crate::plan::{field, set_field, Entry, Field, Plan};
+use oracle::limits::{CHILDREN, KINDS, PRODUCTIONS, SETTINGS, TRAILER};
 
 /// A book with a fault of the given number, 1 to 8, where the plan has a place for it.
 pub fn faulty(chance: &mut Chance, plan: &Plan, number: usize) -> Vec<u8> {
@@ -10,7 +11,7 @@ pub fn faulty(chance: &mut Chance, plan: &Plan, number: usize) -> Vec<u8> {
     match number {
         1 => {
             let bytes = plan.bytes();
-            bytes[bytes.len() - chance.below(12)..].to_vec()
+            bytes[bytes.len() - chance.below(TRAILER)..].to_vec()
         }
         2..=4 => {
             let mut bytes = plan.bytes();
@@ -29,9 +30,9 @@ fn spoil_trailer(chance: &mut Chance, bytes: &mut Vec<u8>, number: usize) {
         2 => set_field(bytes, Field::Edition, *chance.pick(&[0, 2, 256, 257, 0x0101, 65535])),
         3 => {
             let (which, values): (_, [u16; 4]) = match chance.below(3) {
-                0 => (Field::Kinds, [0, 33, 257, 65535]),
-                1 => (Field::Productions, [0, 65, 257, 65535]),
-                _ => (Field::Start, [field(bytes, Field::Kinds), 32, 256, 65535]),
+                0 => (Field::Kinds, [0, KINDS as u16 + 1, 257, 65535]),
+                1 => (Field::Productions, [0, PRODUCTIONS as u16 + 1, 257, 65535]),
+                _ => (Field::Start, [field(bytes, Field::Kinds), KINDS as u16, 256, 65535]),
             };
             set_field(bytes, which, *chance.pick(&values));
         }
@@ -41,7 +42,7 @@ fn spoil_trailer(chance: &mut Chance, bytes: &mut Vec<u8>, number: usize) {
 
 /// Distances that are off, gaps and remainders, entries whose counts run elsewhere.
 fn spoil_layout(chance: &mut Chance, bytes: &mut Vec<u8>) {
-    let trailer = bytes.len() - 12;
+    let trailer = bytes.len() - TRAILER;
     match chance.below(6) {
         0 => {
             let value = field(bytes, Field::BackToKinds).wrapping_add(*chance.pick(&[1, 65535, 2, 256]));
@@ -73,10 +74,10 @@ fn spoil_kind(chance: &mut Chance, plan: &mut Plan) -> Vec<u8> {
     let place = chance.below(plan.kinds.len());
     let start = plan.start as usize;
     match chance.below(3) {
-        0 => plan.kinds[place].settings = *chance.pick(&[9, 10, 16, 255]),
-        1 if plan.kinds[place].settings < 8 => {
+        0 => plan.kinds[place].settings = *chance.pick(&[SETTINGS as u8 + 1, SETTINGS as u8 + 2, 16, 255]),
+        1 if plan.kinds[place].settings < SETTINGS as u8 => {
             let kind = &mut plan.kinds[place];
-            kind.inherited |= 1 << chance.between(kind.settings as usize, 7);
+            kind.inherited |= 1 << chance.between(kind.settings as usize, SETTINGS - 1);
         }
         _ => {
             let settings = plan.kinds[start].settings.max(1);
@@ -92,9 +93,9 @@ fn spoil_children(chance: &mut Chance, plan: &mut Plan) -> Vec<u8> {
     let place = chance.below(plan.entries.len());
     let entry = &mut plan.entries[place];
     match chance.below(4) {
-        0 => entry.left = *chance.pick(&[n, 32, 64, 255]),
+        0 => entry.left = *chance.pick(&[n, KINDS as u8, 64, 255]),
         1 => {
-            let count = *chance.pick(&[5, 5, 6, 8, 31, 255]);
+            let count = *chance.pick(&[CHILDREN + 1, CHILDREN + 1, CHILDREN + 2, CHILDREN + 4, 31, 255]);
             entry.children = (0..count).map(|_| chance.below(n as usize) as u8).collect();
         }
         _ => {
@@ -151,7 +152,7 @@ fn bad_pair(chance: &mut Chance, plan: &Plan, entry: &Entry) -> (u8, u8) {
 
 /// A kind without production: all of its own go to another kind, or a new kind comes.
 fn spoil_left(chance: &mut Chance, plan: &mut Plan) -> Vec<u8> {
-    if plan.kinds.len() < 32 && chance.once_in(2) {
+    if plan.kinds.len() < KINDS && chance.once_in(2) {
         plan.kind(0, 0);
     } else {
         let gone = chance.below(plan.kinds.len()) as u8;

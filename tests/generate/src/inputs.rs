@@ -3,26 +3,24 @@
 use crate::chance::Chance;
 use crate::requests::{faulty_book, fitted, limit_book};
 use crate::{damage, limits, sheets};
-
-/// The program's room.
-const UP_ENTRIES: usize = 8_192;
-const DOWN_ENTRIES: usize = 1_489;
-const NODES: usize = 2_730;
+use oracle::limits::{DOWN_ENTRIES, LEVELS, NODES, SETTINGS, SHEET, UP_ENTRIES};
 
 pub fn input(sheet: &[u8], book: &[u8]) -> Vec<u8> {
     [&(sheet.len() as u16).to_le_bytes(), sheet, book].concat()
 }
 
-/// Books and vehicles that fill the program's room or have 64 levels, or are one over it.
+/// Books and vehicles that fill the program's room or have the most levels, or are one over it.
 fn full(chance: &mut Chance, turn: usize) -> Vec<u8> {
     match turn % 10 {
         step @ 0..=2 => input(&[0], &limits::up_entries(UP_ENTRIES - 1 + step).bytes()),
         step @ 3..=5 => input(&[0], &limits::down_entries(DOWN_ENTRIES - 4 + step).bytes()),
-        step @ 6..=7 => input(&sheets::tower(58 + step, chance.once_in(2)), &limits::apart(8).bytes()),
-        8 => input(&sheets::apart(NODES), &limits::apart(8).bytes()),
+        step @ 6..=7 => {
+            input(&sheets::tower(LEVELS - 6 + step, chance.once_in(2)), &limits::apart(SETTINGS as u8).bytes())
+        }
+        8 => input(&sheets::apart(NODES), &limits::apart(SETTINGS as u8).bytes()),
         _ => {
-            let nodes = *chance.pick(&[NODES + 1, 4096]);
-            input(&sheets::apart(nodes), &limits::apart(*chance.pick(&[0, 1, 8])).bytes())
+            let nodes = *chance.pick(&[NODES + 1, SHEET]);
+            input(&sheets::apart(nodes), &limits::apart(*chance.pick(&[0, 1, SETTINGS as u8])).bytes())
         }
     }
 }
@@ -35,16 +33,16 @@ fn cut(chance: &mut Chance, turn: usize) -> Vec<u8> {
         0 => whole[..chance.below(2)].to_vec(),
         1 => whole[..chance.between(2, 1 + sheet.len())].to_vec(),
         2 => whole[..2 + sheet.len()].to_vec(),
-        3 => input(&chance.bytes(4096), &limits::largest(chance).bytes()),
-        4 => input(&chance.bytes(4097), &limits::largest(chance).bytes()),
+        3 => input(&chance.bytes(SHEET), &limits::largest(chance).bytes()),
+        4 => input(&chance.bytes(SHEET + 1), &limits::largest(chance).bytes()),
         _ => chance.bytes(if turn % 12 < 6 { 40_000 } else { 100_000 }),
     }
 }
 
-/// Sheets over 4,096 bytes: the book's refusals come first.
+/// Sheets that are too long: the book's refusals come first.
 fn overlong(chance: &mut Chance, turn: usize) -> Vec<u8> {
     let (book, _, _) = fitted(chance);
-    let sheet = vec![0; *chance.pick(&[4097, 5000, 20_000])];
+    let sheet = vec![0; *chance.pick(&[SHEET + 1, 5000, 20_000])];
     if turn % 2 == 0 {
         input(&sheet, &book)
     } else {

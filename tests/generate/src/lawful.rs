@@ -2,6 +2,7 @@
 
 use crate::chance::Chance;
 use crate::plan::{Entry, Kind, Plan};
+use oracle::limits::{CHILDREN, KINDS, PRODUCTIONS, SETTINGS};
 
 /// How large a random book is meant to be.
 pub struct Size {
@@ -14,13 +15,13 @@ pub struct Size {
 
 /// Mostly small books, whose tables fit and differ from node to node; sometimes any size at all.
 fn size(chance: &mut Chance) -> Size {
-    let kinds = *chance.pick(&[1, 2, 2, 3, 3, 4, 4, 5, 6, 8, 12, 20, 32]);
-    let most = 64 - kinds;
+    let kinds = *chance.pick(&[1, 2, 2, 3, 3, 4, 4, 5, 6, 8, 12, 20, KINDS]);
+    let most = PRODUCTIONS - kinds;
     Size {
         kinds,
-        settings: *chance.pick(&[0, 1, 2, 2, 3, 3, 3, 4, 4, 5, 6, 8]),
+        settings: *chance.pick(&[0, 1, 2, 2, 3, 3, 3, 4, 4, 5, 6, SETTINGS]),
         productions: kinds + chance.below(most.min(2 * kinds) + 1),
-        children: *chance.pick(&[1, 2, 2, 2, 3, 4]),
+        children: *chance.pick(&[1, 2, 2, 2, 3, CHILDREN]),
         pairs: *chance.pick(&[0, 1, 2, 3, 4, 6, 12]),
     }
 }

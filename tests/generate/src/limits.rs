@@ -3,6 +3,7 @@
 use crate::chance::Chance;
 use crate::lawful::random_entry;
 use crate::plan::{Entry, Plan};
+use oracle::limits::{CHILDREN, KINDS, PAIRS, PRODUCTIONS, SETTINGS};
 
 /// All groupings of so many settings, as labels by first appearance.
 pub fn groupings(settings: usize) -> Vec<Vec<u8>> {
@@ -81,10 +82,10 @@ pub fn feasible(members: usize) -> Plan {
 /// Productions of a kind without settings over a child with five groupings, so many that they have
 /// exactly `entries` choices together: five to the fourth, third, and so on down to one.
 fn choices(plan: &mut Plan, kind: u8, child: u8, mut entries: usize) {
-    for children in (0..=4).rev() {
-        let each = 5usize.pow(children);
+    for children in (0..=CHILDREN).rev() {
+        let each = 5usize.pow(children as u32);
         for _ in 0..entries / each {
-            plan.production(kind, &vec![child; children as usize], &[]);
+            plan.production(kind, &vec![child; children], &[]);
         }
         entries %= each;
     }
@@ -113,7 +114,7 @@ pub fn down_entries(entries: usize) -> Plan {
 /// Every setting apart: eight at the root, `settings` at each node below, which has 4, 2, 1 or 0 children.
 pub fn apart(settings: u8) -> Plan {
     let mut plan = Plan::default();
-    let start = plan.kind(8, 0);
+    let start = plan.kind(SETTINGS as u8, 0);
     let node = plan.kind(settings, 0);
     plan.production(start, &[node], &[]);
     for children in [4, 2, 1, 0] {
@@ -122,18 +123,18 @@ pub fn apart(settings: u8) -> Plan {
     plan
 }
 
-/// 32 kinds, 64 productions, four children and 255 pairs in each: 33,164 bytes; nothing grows from it.
+/// The most kinds and productions, and the most children and pairs in each; nothing grows from it.
 pub fn largest(chance: &mut Chance) -> Plan {
     let mut plan = Plan::default();
-    plan.kind(8, 0);
-    for _ in 1..32 {
+    plan.kind(SETTINGS as u8, 0);
+    for _ in 1..KINDS {
         // All of a child's settings can be set, so that there are pairs enough.
-        plan.kind(8, 255);
+        plan.kind(SETTINGS as u8, 255);
     }
-    for number in 0..64u8 {
-        let mut entry = random_entry(chance, &plan, number % 32, 4, 2000);
+    for number in 0..PRODUCTIONS {
+        let mut entry = random_entry(chance, &plan, (number % KINDS) as u8, CHILDREN, 2000);
         chance.shuffle(&mut entry.pairs);
-        entry.pairs.truncate(255);
+        entry.pairs.truncate(PAIRS);
         entry.pairs.sort();
         plan.entries.push(entry);
     }
@@ -143,8 +144,8 @@ pub fn largest(chance: &mut Chance) -> Plan {
 /// One kind, the start, with nothing but childless productions.
 pub fn lonely(chance: &mut Chance) -> Plan {
     let mut plan = Plan::default();
-    plan.kind(chance.below(9) as u8, 0);
-    for _ in 0..*chance.pick(&[1, 2, 5, 64]) {
+    plan.kind(chance.below(SETTINGS + 1) as u8, 0);
+    for _ in 0..*chance.pick(&[1, 2, 5, PRODUCTIONS]) {
         let pairs = chance.below(5);
         let entry = random_entry(chance, &plan, 0, 0, pairs);
         plan.entries.push(entry);
@@ -165,14 +166,14 @@ pub fn unproductive() -> Plan {
     plan
 }
 
-/// 64 groupings in each of four children: millions of choices, few results.
+/// 64 groupings in each child: millions of choices, few results.
 pub fn many_choices(chance: &mut Chance) -> Plan {
     let mut plan = started();
     let child = product(&mut plan, 8, 8, false);
     let carrier = plan.kind(3, 0);
     plan.production(0, &[carrier], &[]);
     for _ in 0..chance.between(1, 3) {
-        let children = chance.between(2, 4);
+        let children = chance.between(2, CHILDREN);
         let entry = random_entry(chance, &plan, carrier, 0, 0);
         let pairs: Vec<(u8, u8)> =
             (0..6).map(|_| (chance.below(3) as u8, chance.between(8, 8 * children + 7) as u8)).collect();
@@ -186,8 +187,8 @@ pub fn swollen(chance: &mut Chance) -> Plan {
     let mut plan = started();
     plan.kind(1, 0);
     for _ in 0..chance.between(1, 50) {
-        let children = vec![1; *chance.pick(&[5, 40, 255])];
-        plan.entries.push(Entry { left: chance.below(2) as u8, children, pairs: vec![(0, 0); 255] });
+        let children = vec![1; *chance.pick(&[CHILDREN + 1, 40, 255])];
+        plan.entries.push(Entry { left: chance.below(2) as u8, children, pairs: vec![(0, 0); PAIRS] });
     }
     plan
 }

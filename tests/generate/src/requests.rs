@@ -3,10 +3,12 @@
 use crate::chance::Chance;
 use crate::plan::Plan;
 use crate::rooms::{self, enough, garbage};
-use crate::tables::{built, damaged, renamed, strange, DOWN_ROOM, UP_ROOM};
+use crate::tables::{built, damaged, renamed, strange};
 use crate::{damage, lawful, limits, sheets};
 use oracle::book::{check_book, Grammar};
+use oracle::limits::{ENTRY, LABELS, LEVELS, MEMBERS, SETTINGS, SHEET};
 use oracle::sheet::{read_sheet, settings};
+use oracle::trial::room;
 use oracle::walk::Tables;
 
 /// A request's bytes: the call, then each argument with its length.
@@ -49,17 +51,17 @@ pub(crate) fn faulty_book(chance: &mut Chance, turn: usize) -> Vec<u8> {
 
 pub(crate) fn limit_book(chance: &mut Chance, turn: usize) -> Vec<u8> {
     let plan = match turn % 12 {
-        0 => limits::plausible(65, true),
-        1 => limits::feasible(65),
-        2 => limits::plausible(64, true),
-        3 => limits::feasible(64),
-        4 => limits::plausible(65, false),
-        5 => limits::plausible(63, false),
-        6 => limits::feasible(63),
+        0 => limits::plausible(MEMBERS + 1, true),
+        1 => limits::feasible(MEMBERS + 1),
+        2 => limits::plausible(MEMBERS, true),
+        3 => limits::feasible(MEMBERS),
+        4 => limits::plausible(MEMBERS + 1, false),
+        5 => limits::plausible(MEMBERS - 1, false),
+        6 => limits::feasible(MEMBERS - 1),
         7 => limits::many_choices(chance),
         8 => limits::largest(chance),
-        9 => limits::up_entries(chance.between(UP_ROOM - 1, UP_ROOM + 1)),
-        10 => limits::down_entries(chance.between(DOWN_ROOM / 44 - 1, DOWN_ROOM / 44 + 1)),
+        9 => limits::up_entries(chance.between(room::UP - 1, room::UP + 1)),
+        10 => limits::down_entries(chance.between(room::DOWN / ENTRY - 1, room::DOWN / ENTRY + 1)),
         _ => limits::unproductive(),
     };
     plan.bytes()
@@ -94,10 +96,10 @@ pub(crate) fn fitted(chance: &mut Chance) -> (Vec<u8>, Grammar, Vec<u8>) {
     }
 }
 
-/// Sheets of 64, 65 and 66 levels, and ones that go wrong at level 65 in every way.
+/// Sheets of the most levels, of one and two more, and ones that go wrong at one more in every way.
 fn high_sheet(chance: &mut Chance, turn: usize) -> Vec<u8> {
     let side = chance.once_in(2);
-    let levels = *[65, 65, 64, 65, 65, 66].get(turn % 7).unwrap_or(&64);
+    let levels = LEVELS + [1, 1, 0, 1, 1, 2, 0][turn % 7];
     let mut sheet = sheets::tower(levels, side);
     let last = sheet.pop().expect("a tower has nodes");
     match turn % 7 {
@@ -113,7 +115,9 @@ fn sheet_request(chance: &mut Chance, turn: usize) -> Vec<u8> {
     let (mut book, grammar, mut sheet) = fitted(chance);
     match turn % 8 {
         0 => (),
-        1 => (book, sheet) = (limits::apart(8).bytes(), sheets::apart(chance.between(4095, 4097))),
+        1 => {
+            (book, sheet) = (limits::apart(SETTINGS as u8).bytes(), sheets::apart(chance.between(SHEET - 1, SHEET + 1)))
+        }
         2 => (book, sheet) = (limits::apart(2).bytes(), high_sheet(chance, turn / 8)),
         3 => sheet.truncate(chance.below(2) * chance.below(sheet.len())),
         4 => book = faulty_book(chance, turn / 8),
@@ -126,19 +130,19 @@ fn sheet_request(chance: &mut Chance, turn: usize) -> Vec<u8> {
 /// A build with at most one slice too short, and garbage in all.
 fn build_request(chance: &mut Chance, book: &[u8]) -> Vec<u8> {
     let n = check_book(book).map_or(2, |grammar| grammar.kinds.len());
-    let (up, down) = built(book).map_or((20, 5 * 44), |tables| (tables.up.len(), tables.down.len()));
+    let (up, down) = built(book).map_or((20, 5 * ENTRY), |tables| (tables.up.len(), tables.down.len()));
     let short = chance.below(24);
-    let mut room = |place: usize, need: usize, most: usize| {
-        let room = if place == short { rooms::short } else { enough };
-        room(chance, need, most)
+    let mut fit = |place: usize, need: usize, most: usize| {
+        let fit = if place == short { rooms::short } else { enough };
+        fit(chance, need, most)
     };
     let lengths = [
-        4 * room(0, 64 * n, 2200),
-        room(1, n, 64),
-        4 * room(2, 64 * n, 2200),
-        room(3, n, 64),
-        room(4, up, UP_ROOM),
-        room(5, down, DOWN_ROOM),
+        4 * fit(0, MEMBERS * n, room::SETS),
+        fit(1, n, room::COUNTS),
+        4 * fit(2, MEMBERS * n, room::SETS),
+        fit(3, n, room::COUNTS),
+        fit(4, up, room::UP),
+        fit(5, down, room::DOWN),
     ];
     let slices: Vec<Vec<u8>> = lengths.iter().map(|&length| garbage(chance, length, |n| n as u8)).collect();
     let mut arguments = vec![book];
@@ -159,14 +163,14 @@ const ALL_LONG: usize = 6;
 fn number(chance: &mut Chance, book: &[u8], sheet: &[u8], mut tables: Tables, short: usize) -> Vec<u8> {
     let read = check_book(book).and_then(|grammar| Ok((read_sheet(&grammar, sheet)?, grammar)));
     let (nodes, settings) = read.map_or((4, 9), |(nodes, g)| (nodes.len(), settings(&g, &nodes)));
-    let mut room = |place: usize, need: usize, most: usize| {
-        let room = if place == short { rooms::short } else { enough };
-        room(chance, need, most)
+    let mut fit = |place: usize, need: usize, most: usize| {
+        let fit = if place == short { rooms::short } else { enough };
+        fit(chance, need, most)
     };
-    let (nodes, groups) = (room(NODES, 3 * nodes, 12_500), room(GROUPS, settings, 33_000));
+    let (nodes, groups) = (fit(NODES, 3 * nodes, room::NODES), fit(GROUPS, settings, room::GROUPS));
     let counts = (tables.plausible_counts.len(), tables.feasible_counts.len());
-    let counts = (room(PLAUSIBLE, counts.0, 64), room(FEASIBLE, counts.1, 64));
-    let (up, down) = (room(UP, tables.up.len(), UP_ROOM), room(DOWN, tables.down.len(), DOWN_ROOM));
+    let counts = (fit(PLAUSIBLE, counts.0, room::COUNTS), fit(FEASIBLE, counts.1, room::COUNTS));
+    let (up, down) = (fit(UP, tables.up.len(), room::UP), fit(DOWN, tables.down.len(), room::DOWN));
     tables.plausible_counts.resize(counts.0, chance.byte());
     tables.feasible_counts.resize(counts.1, chance.byte());
     tables.up.resize(up, chance.byte());
@@ -199,8 +203,8 @@ fn sheet_call(chance: &mut Chance, turn: usize) -> Vec<u8> {
         0 | 1 | 3 | 4 => (),
         5 => renamed(chance, &mut tables),
         6 => {
-            book = limits::apart(8).bytes();
-            sheet = sheets::apart(*chance.pick(&[40, 300, 4096, 4097]));
+            book = limits::apart(SETTINGS as u8).bytes();
+            sheet = sheets::apart(*chance.pick(&[40, 300, SHEET, SHEET + 1]));
             tables = built(&book).expect("small tables");
         }
         7 if chance.once_in(2) => book = faulty_book(chance, turn / 10),
@@ -216,19 +220,19 @@ fn sheet_call(chance: &mut Chance, turn: usize) -> Vec<u8> {
 fn blocks_request(chance: &mut Chance) -> Vec<u8> {
     let strangers = chance.once_in(2);
     let (_, _, mut tables) = tabled(chance, strangers);
-    let entries = tables.down.len() / 44;
+    let entries = tables.down.len() / ENTRY;
     if chance.once_in(8) {
         tables.down.truncate(chance.below(tables.down.len() + 1));
     }
-    // Entries so far off that times 44, or cut to 32 bits, they would come round to the near ones.
-    let far = *chance.pick(&[1 << 62, 1 << 63, 1 << 32, u64::MAX / 44 + 1]);
+    // Entries so far off that times an entry's size, or cut to 32 bits, they would come round to the near ones.
+    let far = *chance.pick(&[1 << 62, 1 << 63, 1 << 32, u64::MAX / ENTRY as u64 + 1]);
     let past = entries == 0 || chance.once_in(8);
     let near = if past { entries } else { chance.below(entries) };
     let entry = near as u64 + if chance.once_in(4) { far } else { 0 };
     // Labels that stand in the entry, or are the ranks behind them.
     let any = chance.byte();
-    let offset = if chance.once_in(2) { chance.below(40) } else { 40 };
-    let there = tables.down.get(44 * near + offset).map_or(0, |&byte| byte);
+    let offset = if chance.once_in(2) { chance.below(LABELS) } else { LABELS };
+    let there = tables.down.get(ENTRY * near + offset).map_or(0, |&byte| byte);
     let label = *chance.pick(&[0, 1, 255, any, there, there]);
     request(5, &[&tables.down, &entry.to_le_bytes(), &[label]])
 }
@@ -236,7 +240,7 @@ fn blocks_request(chance: &mut Chance) -> Vec<u8> {
 /// Requests that are none: no call, no such call, arguments cut, left over, of odd length or far too long.
 fn malformed(chance: &mut Chance, turn: usize) -> Vec<u8> {
     let (book, sheet, tables) = tabled(chance, false);
-    let mut whole = number_request(&book, &sheet, &tables, &vec![7; 3 * sheet.len()], &vec![7; 8 * sheet.len()]);
+    let mut whole = number_request(&book, &sheet, &tables, &vec![7; 3 * sheet.len()], &vec![7; SETTINGS * sheet.len()]);
     match turn % 9 {
         0 => Vec::new(),
         1 => request(*chance.pick(&[0, 128, 200, 255]), &[&book]),
@@ -246,12 +250,15 @@ fn malformed(chance: &mut Chance, turn: usize) -> Vec<u8> {
             whole
         }
         4 => request(3, &[&book, &[1, 2, 3], &[0; 2], &[0; 256], &[0; 2], &[], &[]]),
-        5 => request(4, &[&book, &sheet, &[1], &[1], &[0], &[0; 44], &[0; 23], &[0; 16]]),
+        5 => request(4, &[&book, &sheet, &[1], &[1], &[0], &[0; ENTRY], &[0; 23], &[0; 16]]),
         6 => request(5, &[&tables.down, &[0; 7][..*chance.pick(&[0, 4, 7])], &[0]]),
         7 => request(5, &[&tables.down, &[0; 8], &[0; 2][..*chance.pick(&[0, 2])]]),
         _ => request(1, &[&chance.bytes(600_000)]),
     }
 }
+
+/// The longest request of calls 1 and 2: the call's byte, and a book and a sheet that fill their rooms, each with its length.
+const LONGEST: usize = 1 + 4 + room::BOOK + 4 + room::SHEET;
 
 /// Requests of calls 1 and 2 that are none, and one that fills both rooms.
 fn malformed_check(chance: &mut Chance, turn: usize) -> Vec<u8> {
@@ -265,17 +272,17 @@ fn malformed_check(chance: &mut Chance, turn: usize) -> Vec<u8> {
         4 => request(1, &[&book, &sheet]),
         5 => request(2, &[&book]),
         6 => {
-            let length = *chance.pick(&[40_001, 45_009, 45_010, 600_000]);
+            let length = *chance.pick(&[room::BOOK + 1, LONGEST, LONGEST + 1, 600_000]);
             request(1, &[&chance.bytes(length)])
         }
-        7 => request(2, &[&book, &chance.bytes(5_001)]),
+        7 => request(2, &[&book, &chance.bytes(room::SHEET + 1)]),
         // The book's length comes round, or takes in the sheet.
         8 => {
             let length = *chance.pick(&[u32::MAX, u32::MAX - 3, (book.len() + sheet.len() + 4) as u32]);
             whole[1..5].copy_from_slice(&length.to_le_bytes());
             whole
         }
-        _ => request(2, &[&chance.bytes(40_000), &chance.bytes(5_000)]),
+        _ => request(2, &[&chance.bytes(room::BOOK), &chance.bytes(room::SHEET)]),
     }
 }
 

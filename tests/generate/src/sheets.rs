@@ -2,6 +2,7 @@
 
 use crate::chance::Chance;
 use oracle::book::Grammar;
+use oracle::limits::{LEVELS, SHEET};
 
 /// Grows trees from a grammar; it knows how high the lowest tree of each kind is.
 pub struct Grower<'a> {
@@ -36,7 +37,7 @@ impl<'a> Grower<'a> {
         let mut sheet = Vec::new();
         let fits = self.lowest[kind].map_or(false, |height| height <= levels);
         fits.then(|| self.grow(chance, kind, nodes, levels, &mut sheet))?;
-        (sheet.len() <= 4096).then_some(sheet)
+        (sheet.len() <= SHEET).then_some(sheet)
     }
 
     fn grow(&self, chance: &mut Chance, kind: usize, nodes: usize, levels: usize, sheet: &mut Vec<u8>) {
@@ -51,7 +52,7 @@ impl<'a> Grower<'a> {
         };
         let production = *chance.pick(if wanted.is_empty() { &fitting } else { &wanted });
         sheet.push(production as u8);
-        if sheet.len() <= 4096 {
+        if sheet.len() <= SHEET {
             for &child in &self.grammar.productions[production].children {
                 self.grow(chance, child, nodes, levels - 1, sheet);
             }
@@ -62,11 +63,11 @@ impl<'a> Grower<'a> {
 /// A sheet of a grammar, small or middling; nothing if none can be grown.
 pub fn grown(chance: &mut Chance, grammar: &Grammar) -> Option<Vec<u8>> {
     let nodes = *chance.pick(&[1, 3, 6, 10, 20, 40, 100]);
-    let levels = *chance.pick(&[3, 6, 10, 64, 64, 64]);
+    let levels = *chance.pick(&[3, 6, 10, LEVELS, LEVELS, LEVELS]);
     Grower::new(grammar).tree(chance, grammar.start, nodes, levels)
 }
 
-/// A sheet of the book `limits::apart` with exactly so many nodes, from 2 on, at most 64 levels.
+/// A sheet of the book `limits::apart` with exactly so many nodes, from 2 on, no more levels than there may be.
 pub fn apart(nodes: usize) -> Vec<u8> {
     let mut sheet = vec![0];
     spread(nodes - 1, &mut sheet);

@@ -5,6 +5,7 @@ use crate::lawful;
 use crate::sheets::{grown, Grower};
 use crate::tables::built;
 use oracle::book::{check_book, Grammar};
+use oracle::limits::{LEVELS, SETTINGS};
 use oracle::sheet::{read_sheet, Node};
 use oracle::walk::{number_sheet, Tables};
 
@@ -26,7 +27,7 @@ fn end(nodes: &[Node], node: usize) -> usize {
 
 fn plausible_rank(book: &[u8], sheet: &[u8], tables: &Tables, node: usize) -> Option<u64> {
     let mut places = vec![0; 3 * sheet.len()];
-    let mut groups = vec![0; 8 * sheet.len()];
+    let mut groups = vec![0; SETTINGS * sheet.len()];
     number_sheet(book, sheet, tables, &mut places, &mut groups).ok()?;
     Some(places[3 * node])
 }
@@ -39,7 +40,7 @@ fn other_subtree(chance: &mut Chance, grammar: &Grammar, swap: &Swap, node: &Nod
     let (before, subtree) = swap.old[..swap.old_end].split_at(swap.node);
     for _ in 0..20 {
         let nodes = chance.between(1, 30);
-        let other = grower.tree(chance, kind, nodes, 65 - node.level)?;
+        let other = grower.tree(chance, kind, nodes, LEVELS + 1 - node.level)?;
         let sheet = [before, &other, &swap.old[swap.old_end..]].concat();
         if other != subtree && plausible_rank(&swap.book, &sheet, &swap.tables, swap.node) == Some(rank) {
             return Some(other);

@@ -3,42 +3,40 @@
 use crate::chance::Chance;
 use oracle::book::{check_book, Grammar};
 use oracle::build::{build, Lent};
-use oracle::entries::{choice, down_start, up_start, DOWN};
+use oracle::entries::{choice, down_start, up_start};
+use oracle::limits::{CHILDREN, ENTRY, LABELS, MEMBERS, SETTINGS};
 use oracle::sheet::{read_sheet, Node};
+use oracle::trial::room;
 use oracle::walk::{number_sheet, Tables};
-
-/// The most table bytes that a request has room for.
-pub const UP_ROOM: usize = 16_384;
-pub const DOWN_ROOM: usize = 131_072;
 
 /// The tables of a book, exactly as long as they need be, if they fit a request.
 pub fn built(book: &[u8]) -> Option<Tables> {
     let n = check_book(book).ok()?.kinds.len();
     let mut lent = Lent {
-        plausible: vec![0; 64 * n],
+        plausible: vec![0; MEMBERS * n],
         plausible_counts: vec![0; n],
-        feasible: vec![0; 64 * n],
+        feasible: vec![0; MEMBERS * n],
         feasible_counts: vec![0; n],
-        up: vec![0; UP_ROOM],
-        down: vec![0; DOWN_ROOM],
+        up: vec![0; room::UP],
+        down: vec![0; room::DOWN],
     };
     let (up, down) = build(book, &mut lent).ok()?;
     let Lent { plausible_counts, feasible_counts, .. } = lent;
     lent.up.truncate(up as usize);
-    lent.down.truncate(down as usize * DOWN);
+    lent.down.truncate(down as usize * ENTRY);
     Some(Tables { plausible_counts, feasible_counts, up: lent.up, down: lent.down })
 }
 
 /// A stranger's tables: counts as they please, ranks mostly below them, labels of any kind.
 pub fn strange(chance: &mut Chance, grammar: &Grammar) -> Option<Tables> {
     let n = grammar.kinds.len();
-    let most = *chance.pick(&[1, 2, 3, 64]);
-    let mut count = || if chance.once_in(12) { 64 } else { chance.between(1, most) as u8 };
+    let most = *chance.pick(&[1, 2, 3, MEMBERS]);
+    let mut count = || if chance.once_in(12) { MEMBERS as u8 } else { chance.between(1, most) as u8 };
     let plausible: Vec<u8> = (0..n).map(|_| count()).collect();
     let feasible: Vec<u8> = (0..n).map(|_| count()).collect();
     let all = grammar.productions.len();
     let (up, down) = (up_start(grammar, all, &plausible), down_start(grammar, all, &plausible, &feasible));
-    if up > UP_ROOM as u64 || down > (DOWN_ROOM / DOWN) as u64 {
+    if up > room::UP as u64 || down > (room::DOWN / ENTRY) as u64 {
         return None;
     }
     let mut tables = Tables { plausible_counts: plausible, feasible_counts: feasible, ..Tables::default() };
@@ -49,10 +47,10 @@ pub fn strange(chance: &mut Chance, grammar: &Grammar) -> Option<Tables> {
             tables.up.push(below(chance, tables.plausible_counts[production.left]));
         }
         let downs = down_start(grammar, number + 1, &tables.plausible_counts, &tables.feasible_counts) as usize;
-        while tables.down.len() < downs * DOWN {
+        while tables.down.len() < downs * ENTRY {
             let labels = strange_labels(chance);
             tables.down.extend(labels);
-            let mut ranks = [255; 4];
+            let mut ranks = [255; CHILDREN];
             for (rank, &child) in ranks.iter_mut().zip(&production.children) {
                 *rank = below(chance, tables.feasible_counts[child]);
             }
@@ -69,18 +67,18 @@ fn strange_labels(chance: &mut Chance) -> Vec<u8> {
     let style = chance.below(3);
     let mut label = || match style {
         0 => chance.byte(),
-        1 => *chance.pick(&[0, 1, 255, 255, 40, 254]),
+        1 => *chance.pick(&[0, 1, 255, 255, LABELS as u8, 254]),
         _ => offset.wrapping_sub(chance.below(few) as u8),
     };
-    (0..40).map(|_| label()).collect()
+    (0..LABELS).map(|_| label()).collect()
 }
 
 /// The labels of every entry renamed, each entry in its own way: no build gives them, yet the
 /// groups are the same.
 pub fn renamed(chance: &mut Chance, tables: &mut Tables) {
-    for entry in tables.down.chunks_exact_mut(DOWN) {
+    for entry in tables.down.chunks_exact_mut(ENTRY) {
         let (turn, flip) = (chance.byte(), chance.byte());
-        for label in &mut entry[..40] {
+        for label in &mut entry[..LABELS] {
             *label = label.wrapping_add(turn) ^ flip;
         }
     }
@@ -97,7 +95,7 @@ fn reads(book: &[u8], sheet: &[u8], tables: &Tables) -> Option<Reads> {
     let grammar = check_book(book).ok()?;
     let nodes = read_sheet(&grammar, sheet).ok()?;
     let mut places = vec![0; 3 * nodes.len()];
-    let mut groups = vec![0; 8 * nodes.len()];
+    let mut groups = vec![0; SETTINGS * nodes.len()];
     number_sheet(book, sheet, tables, &mut places, &mut groups).ok()?;
     let counts = &tables.plausible_counts;
     let up = |node: &Node| {
@@ -125,7 +123,7 @@ pub fn damaged(chance: &mut Chance, book: &[u8], sheet: &[u8], tables: &mut Tabl
 }
 
 fn spoil(chance: &mut Chance, reads: &Reads, node: usize, tables: &mut Tables) {
-    let (up, down) = (reads.up[node], reads.down[node] * DOWN);
+    let (up, down) = (reads.up[node], reads.down[node] * ENTRY);
     let kind = chance.below(tables.plausible_counts.len());
     let children = reads.nodes[node].children.len();
     let one_less = |count: &u8| count.saturating_sub(1);
@@ -135,18 +133,18 @@ fn spoil(chance: &mut Chance, reads: &Reads, node: usize, tables: &mut Tables) {
         2 => tables.plausible_counts[kind] = one_less(&tables.plausible_counts[kind]),
         3 => tables.feasible_counts[kind] = one_less(&tables.feasible_counts[kind]),
         4 => tables.up.truncate(up),
-        5 => tables.down.truncate(down + chance.below(DOWN)),
+        5 => tables.down.truncate(down + chance.below(ENTRY)),
         6 if up < tables.up.len() => {
             let near = tables.up[up].wrapping_add(chance.between(1, 3) as u8);
             tables.up[up] = *chance.pick(&[255, 64, near, near]);
         }
-        7 | 8 if children > 0 && down + DOWN <= tables.down.len() => {
-            let rank = &mut tables.down[down + 40 + chance.below(children)];
+        7 | 8 if children > 0 && down + ENTRY <= tables.down.len() => {
+            let rank = &mut tables.down[down + LABELS + chance.below(children)];
             *rank = *chance.pick(&[255, 64, rank.wrapping_add(1)]);
         }
-        _ if down + DOWN <= tables.down.len() => {
-            let label = down + chance.below(40);
-            tables.down[label] = *chance.pick(&[255, 0, 1, 39]);
+        _ if down + ENTRY <= tables.down.len() => {
+            let label = down + chance.below(LABELS);
+            tables.down[label] = *chance.pick(&[255, 0, 1, LABELS as u8 - 1]);
         }
         _ => tables.down.clear(),
     }

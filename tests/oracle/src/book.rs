@@ -1,6 +1,7 @@
 //! The grammar book: refusals 1 to 8, and the grammar read off an accepted book.
 
 use crate::faults::{limit, wrong};
+use crate::limits::{CHILDREN, KINDS, PRODUCTIONS, SETTINGS, TRAILER};
 use crate::refusal::{refuse, Refusal};
 
 /// The article's Fig. 1, settings in the order jk, abcd, efgh.
@@ -86,12 +87,12 @@ fn cut_all(mut bytes: &[u8], count: usize) -> Option<Vec<Entry<'_>>> {
 
 fn bad_kind(kind: &[u8], is_start: bool) -> bool {
     let (settings, mask) = (kind[0], kind[1]);
-    settings > 8 || (mask as u32) >> settings != 0 || (is_start && mask != 0)
+    settings as usize > SETTINGS || (mask as u32) >> settings != 0 || (is_start && mask != 0)
 }
 
 fn bad_kinds(entry: &Entry, kinds: usize, start: usize) -> bool {
     let child_is_bad = |&child: &u8| child as usize >= kinds || (child as usize == start && !wrong("start-as-child"));
-    let many = entry.children.len() > limit("children", 4);
+    let many = entry.children.len() > limit("children", CHILDREN);
     entry.left as usize >= kinds || many || entry.children.iter().any(child_is_bad)
 }
 
@@ -142,10 +143,10 @@ fn check_parts(kinds: &[u8], entries: &[Entry], start: usize) -> Result<(), Refu
 }
 
 pub fn check_book(book: &[u8]) -> Result<Grammar, Refusal> {
-    if book.len() < 12 {
+    if book.len() < TRAILER {
         return refuse(1, 0);
     }
-    let trailer = book.len() - 12;
+    let trailer = book.len() - TRAILER;
     let mut fields = book[trailer..].chunks(2).map(|b| u16::from_le_bytes([b[0], b[1]]) as usize);
     let mut field = || fields.next().unwrap();
     let (edition, n, p, start) = (field(), field(), field(), field());
@@ -153,7 +154,7 @@ pub fn check_book(book: &[u8]) -> Result<Grammar, Refusal> {
     if (if wrong("edition-byte") { edition & 255 } else { edition }) != 1 {
         return refuse(2, 0);
     }
-    if n == 0 || n > limit("kinds", 32) || p == 0 || p > limit("productions", 64) || start >= n {
+    if n == 0 || n > limit("kinds", KINDS) || p == 0 || p > limit("productions", PRODUCTIONS) || start >= n {
         return refuse(3, 0);
     }
     if back_to_kinds != trailer || back_to_productions + 2 * n != trailer {

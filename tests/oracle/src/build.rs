@@ -1,8 +1,9 @@
 //! The build: refusals 1 to 13, sets and tables in lent slices.
 
 use crate::book::{check_book, Grammar, Production};
-use crate::entries::{choice, choices, down_start, up_start, DOWN};
+use crate::entries::{choice, choices, down_start, up_start};
 use crate::faults::wrong;
+use crate::limits::{ENTRY, LABELS, MEMBERS};
 use crate::passes::{sets, Sets};
 use crate::refusal::{refuse, Refusal};
 use crate::ties::{Code, Ties, NONE};
@@ -35,7 +36,7 @@ impl Lent {
 pub fn build(book: &[u8], lent: &mut Lent) -> Result<(u64, u64), Refusal> {
     let grammar = check_book(book)?;
     let n = grammar.kinds.len();
-    let short_sets = lent.plausible.len() < 64 * n || lent.feasible.len() < 64 * n;
+    let short_sets = lent.plausible.len() < MEMBERS * n || lent.feasible.len() < MEMBERS * n;
     if short_sets || lent.plausible_counts.len() < n || lent.feasible_counts.len() < n {
         return refuse(9, 0);
     }
@@ -66,7 +67,7 @@ fn fitting(grammar: &Grammar, lent: &Lent) -> Result<(Sets, u64, u64), Refusal> 
     let all = grammar.productions.len();
     let up = up_start(grammar, all, &plausible);
     let down = down_start(grammar, all, &plausible, &feasible);
-    let down_over = down > (lent.down.len() / DOWN) as u64;
+    let down_over = down > (lent.down.len() / ENTRY) as u64;
     if up > lent.up.len() as u64 && !(wrong("thirteen-first") && down_over) {
         return refuse(12, 0);
     }
@@ -79,7 +80,7 @@ fn fitting(grammar: &Grammar, lent: &Lent) -> Result<(Sets, u64, u64), Refusal> 
 fn write_sets(sets: &Sets, lent: &mut Lent) {
     let places = [(&sets.plausible, &mut lent.plausible), (&sets.feasible, &mut lent.feasible)];
     for (sets, slice) in places {
-        for (set, place) in sets.iter().zip(slice.chunks_mut(64)) {
+        for (set, place) in sets.iter().zip(slice.chunks_mut(MEMBERS)) {
             if !wrong("unused-places-stay") {
                 place.fill(0);
             }
@@ -123,18 +124,18 @@ fn write_tables(grammar: &Grammar, sets: &Sets, lent: &mut Lent) {
             for (over, &code) in sets.feasible[production.left].iter().enumerate() {
                 let number = first_down + over as u64 * choices(production, &plausible) + chosen;
                 let entry = down_entry(grammar, production, sets, ties.joined(0, settings[0], code));
-                lent.down[number as usize * DOWN..][..DOWN].copy_from_slice(&entry);
+                lent.down[number as usize * ENTRY..][..ENTRY].copy_from_slice(&entry);
             }
         }
     }
 }
 
-fn down_entry(grammar: &Grammar, production: &Production, sets: &Sets, ties: Ties) -> [u8; DOWN] {
-    let mut entry = [NONE; DOWN];
-    entry[..40].copy_from_slice(&ties.0);
+fn down_entry(grammar: &Grammar, production: &Production, sets: &Sets, ties: Ties) -> [u8; ENTRY] {
+    let mut entry = [NONE; ENTRY];
+    entry[..LABELS].copy_from_slice(&ties.0);
     for (place, &child) in production.children.iter().enumerate() {
         let code = ties.on(place + 1, grammar.kinds[child].settings);
-        entry[40 + place] = rank(&sets.feasible[child], code);
+        entry[LABELS + place] = rank(&sets.feasible[child], code);
     }
     entry
 }

@@ -4,9 +4,6 @@
 use crate::book::{Grammar, Production};
 use crate::faults::wrong;
 
-/// Bytes of a down entry: 40 labels, 4 feasible ranks.
-pub const DOWN: usize = 44;
-
 /// How many choices of plausible groupings a production's children have.
 pub fn choices(production: &Production, plausible: &[u8]) -> u64 {
     production.children.iter().map(|&child| plausible[child] as u64).product()

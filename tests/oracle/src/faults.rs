@@ -23,8 +23,8 @@ pub const IN_CHECKS: &[&str] = &[
     "sheet-more",
 ];
 
-/// Those that one might make elsewhere.
-const ELSEWHERE: &[&str] = &[
+/// Those that one might make in the other calls.
+const IN_CALLS: &[&str] = &[
     "own-direction",
     "only-neighbours",
     "falling-ranks",
@@ -39,7 +39,6 @@ const ELSEWHERE: &[&str] = &[
     "last-earlier",
     "ranks-as-labels",
     "label-255",
-    "sheet-over-4096-is-30",
     "stop-at-empty",
     "weights-exchanged",
     "tail-touched",
@@ -49,13 +48,18 @@ const ELSEWHERE: &[&str] = &[
     "across-instances",
     "entry-wraps",
     "children-reversed",
-    "room-for-4096-nodes",
     "nine-after-sheet",
     "room-after-tables",
     "members-less",
     "members-more",
     "count-less",
     "count-more",
+];
+
+/// And in the program `groups`.
+const IN_PROGRAM: &[&str] = &[
+    "sheet-over-4096-is-30",
+    "room-for-4096-nodes",
     "input-less",
     "input-more",
     "up-room-less",
@@ -66,9 +70,14 @@ const ELSEWHERE: &[&str] = &[
     "node-room-more",
 ];
 
+/// Those that a call can have.
+pub fn of_calls() -> Vec<&'static str> {
+    [IN_CHECKS, IN_CALLS].concat()
+}
+
 /// All of them.
 pub fn names() -> Vec<&'static str> {
-    [IN_CHECKS, ELSEWHERE].concat()
+    [IN_CHECKS, IN_CALLS, IN_PROGRAM].concat()
 }
 
 /// Whether the fault of this name is to be made.

@@ -3,6 +3,7 @@
 
 use crate::book::{Grammar, Production};
 use crate::chains::{chains, Chains};
+use crate::limits::{LABELS, SETTINGS, SHEET};
 use crate::passes::Sets;
 use crate::sheet::read_sheet;
 use crate::ties::{code_of, label_in, Code};
@@ -19,7 +20,7 @@ fn choices(sets: &[Vec<Code>]) -> Vec<Vec<Code>> {
 /// Merges the base and a code for some slots; the result projected on each slot.
 fn merge(grammar: &Grammar, production: &Production, codes: &[(usize, Code)]) -> Vec<Code> {
     let settings = grammar.settings_by_slot(production);
-    let mut merged = Chains::apart(40);
+    let mut merged = Chains::apart(LABELS);
     for &(to, from) in &production.pairs {
         merged.tie(to as usize, from as usize);
     }
@@ -27,13 +28,13 @@ fn merge(grammar: &Grammar, production: &Production, codes: &[(usize, Code)]) ->
         for one in 0..settings[slot] {
             for other in 0..one {
                 if label_in(code, one) == label_in(code, other) {
-                    merged.tie(8 * slot + one, 8 * slot + other);
+                    merged.tie(SETTINGS * slot + one, SETTINGS * slot + other);
                 }
             }
         }
     }
     let project = |slot: usize| {
-        let roots: Vec<u8> = (0..settings[slot]).map(|i| merged.root(8 * slot + i) as u8).collect();
+        let roots: Vec<u8> = (0..settings[slot]).map(|i| merged.root(SETTINGS * slot + i) as u8).collect();
         code_of(&roots)
     };
     (0..settings.len()).map(project).collect()
@@ -98,7 +99,7 @@ pub fn grown(grammar: &Grammar) -> Vec<BTreeMap<Code, Vec<u8>>> {
                 let under = |tree: &Vec<u8>| found[child].values().map(|s| [&tree[..], s].concat()).collect::<Vec<_>>();
                 trees = trees.iter().flat_map(under).collect();
             }
-            for tree in trees.into_iter().filter(|tree| tree.len() <= 4096) {
+            for tree in trees.into_iter().filter(|tree| tree.len() <= SHEET) {
                 let code = grouping_of_tree(grammar, production.left, &tree);
                 grew |= !found[production.left].contains_key(&code);
                 found[production.left].entry(code).or_insert(tree);

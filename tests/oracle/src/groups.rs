@@ -2,26 +2,20 @@
 
 use crate::book::check_book;
 use crate::build::{build, Lent};
-use crate::entries::DOWN;
 use crate::faults::{limit, wrong};
+use crate::limits::{DOWN_ENTRIES, ENTRY, INPUT, KINDS, MEMBERS, NODES, SETTINGS, SHEET, UP_ENTRIES};
 use crate::refusal::{refuse, Refusal};
 use crate::sheet::{read_sheet, settings_at};
 use crate::walk::{number_sheet, Tables};
 use std::fmt::Write;
 
-const MOST_INPUT: usize = 37_262;
-const UP_ENTRIES: usize = 8_192;
-const DOWN_ENTRIES: usize = 1_489;
-const NODES: usize = 2_730;
-const KINDS: usize = 32;
-
 /// Sheet and book, or refusal 30.
 fn cut(input: &[u8]) -> Result<(&[u8], &[u8]), Refusal> {
-    if input.len() > limit("input", MOST_INPUT) || input.len() < 2 {
+    if input.len() > limit("input", INPUT) || input.len() < 2 {
         return refuse(30, 0);
     }
     let length = u16::from_le_bytes([input[0], input[1]]) as usize;
-    if input.len() - 2 < length || (length > 4096 && wrong("sheet-over-4096-is-30")) {
+    if input.len() - 2 < length || (length > SHEET && wrong("sheet-over-4096-is-30")) {
         return refuse(30, 0);
     }
     Ok(input[2..].split_at(length))
@@ -30,19 +24,19 @@ fn cut(input: &[u8]) -> Result<(&[u8], &[u8]), Refusal> {
 fn run(input: &[u8]) -> Result<String, Refusal> {
     let (sheet, book) = cut(input)?;
     let mut lent = Lent {
-        plausible: vec![0; 64 * KINDS],
+        plausible: vec![0; MEMBERS * KINDS],
         plausible_counts: vec![0; KINDS],
-        feasible: vec![0; 64 * KINDS],
+        feasible: vec![0; MEMBERS * KINDS],
         feasible_counts: vec![0; KINDS],
         up: vec![0; limit("up-room", UP_ENTRIES)],
-        down: vec![0; limit("down-room", DOWN_ENTRIES) * DOWN],
+        down: vec![0; limit("down-room", DOWN_ENTRIES) * ENTRY],
     };
     build(book, &mut lent)?;
     let Lent { plausible_counts, feasible_counts, up, down, .. } = lent;
     let tables = Tables { plausible_counts, feasible_counts, up, down };
     let room = limit("node-room", NODES);
     let mut nodes = vec![0; 3 * room];
-    let mut groups = vec![0; if wrong("room-for-4096-nodes") { 4096 } else { 8 * room }];
+    let mut groups = vec![0; if wrong("room-for-4096-nodes") { SHEET } else { SETTINGS * room }];
     let counts = number_sheet(book, sheet, &tables, &mut nodes, &mut groups)?;
     Ok(print(book, sheet, counts, &nodes, &groups))
 }

@@ -9,6 +9,7 @@ pub mod entries;
 pub mod faults;
 pub mod figure;
 pub mod groups;
+pub mod limits;
 pub mod passes;
 pub mod refusal;
 pub mod sheet;

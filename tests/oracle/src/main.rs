@@ -1,5 +1,6 @@
 //! `oracle groups` and `oracle trial`: the same input and output as the programs of those names. `oracle checks`: those of
-//! `tests/c/answers.c`. `oracle faults` lists the deliberate faults, `oracle check-faults` those that C can meet.
+//! `tests/c/answers.c`. `oracle faults` lists the deliberate faults, `oracle call-faults` those that `trial` can meet, `oracle
+//! check-faults` those that C can.
 
 use std::io::{Read, Write};
 
@@ -15,9 +16,10 @@ fn main() {
         Some("trial") => oracle::trial::answers(&input(), oracle::trial::answer),
         Some("checks") => oracle::trial::answers(&input(), oracle::trial::check_answer),
         Some("faults") => oracle::faults::names().join("\n") + "\n",
+        Some("call-faults") => oracle::faults::of_calls().join("\n") + "\n",
         Some("check-faults") => oracle::faults::IN_CHECKS.join("\n") + "\n",
         _ => {
-            eprintln!("usage: oracle groups|trial|checks|faults|check-faults");
+            eprintln!("usage: oracle groups|trial|checks|faults|call-faults|check-faults");
             std::process::exit(2);
         }
     };

@@ -4,6 +4,7 @@
 
 use crate::book::{Grammar, Production};
 use crate::faults::{limit, wrong};
+use crate::limits::MEMBERS;
 use crate::refusal::{refuse, Refusal};
 use crate::ties::{Code, Ties};
 use std::collections::HashSet;
@@ -111,7 +112,7 @@ fn upward(grammar: &Grammar) -> Result<Vec<Vec<Code>>, Refusal> {
             for code in fresh(grammar, production, &sets, met) {
                 added |= add(&mut sets[production.left], code);
             }
-            if sets[production.left].len() > limit("members", 64) {
+            if sets[production.left].len() > limit("members", MEMBERS) {
                 return refuse(10, 0);
             }
         }
@@ -176,7 +177,7 @@ fn downward(grammar: &Grammar, plausible: &[Vec<Code>]) -> Result<Vec<Vec<Code>>
             for code in results {
                 added |= add(&mut sets[view.child], code);
             }
-            if sets[view.child].len() > limit("members", 64) {
+            if sets[view.child].len() > limit("members", MEMBERS) {
                 return refuse(11, 0);
             }
         }

@@ -2,6 +2,7 @@
 
 use crate::book::Grammar;
 use crate::faults::{limit, wrong};
+use crate::limits::{LEVELS, SHEET};
 use crate::refusal::{refuse, Refusal};
 
 #[derive(Clone, Debug)]
@@ -21,7 +22,7 @@ struct Due {
 
 /// Reads the sheet from left to right with a pile of what is due.
 pub fn read_sheet(grammar: &Grammar, sheet: &[u8]) -> Result<Vec<Node>, Refusal> {
-    if sheet.is_empty() || sheet.len() > limit("sheet", 4096) {
+    if sheet.is_empty() || sheet.len() > limit("sheet", SHEET) {
         return refuse(20, 0);
     }
     let mut nodes: Vec<Node> = Vec::new();
@@ -56,7 +57,7 @@ pub fn read_sheet(grammar: &Grammar, sheet: &[u8]) -> Result<Vec<Node>, Refusal>
 
 /// Refusals 21, 22 and 23 at one position, in that order.
 fn fits(grammar: &Grammar, byte: u8, want: &Due, position: usize) -> Result<(), Refusal> {
-    let deepest = limit("levels", 64);
+    let deepest = limit("levels", LEVELS);
     if wrong("level-first") && want.level > deepest {
         return refuse(23, position);
     }

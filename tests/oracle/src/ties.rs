@@ -2,6 +2,7 @@
 
 use crate::book::{Grammar, Production};
 use crate::faults::wrong;
+use crate::limits::{LABELS, SETTINGS};
 
 /// A grouping of one kind's settings: setting i has its label in bits 3i to 3i+2.
 pub type Code = u32;
@@ -9,9 +10,9 @@ pub type Code = u32;
 /// Where no occurrence stands, or where it was dropped.
 pub const NONE: u8 = 255;
 
-/// Occurrences 0 to 39 with block labels by first appearance, so that equal groupings are equal values.
+/// All occurrences with block labels by first appearance, so that equal groupings are equal values.
 #[derive(Clone, Copy, Debug, PartialEq, Eq, Hash, PartialOrd, Ord)]
-pub struct Ties(pub [u8; 40]);
+pub struct Ties(pub [u8; LABELS]);
 
 /// Labels afresh by first appearance; NONE stays.
 pub fn relabel(labels: &mut [u8]) {
@@ -41,10 +42,10 @@ pub fn label_in(code: Code, setting: usize) -> u8 {
 impl Ties {
     /// All occurrences of the production apart.
     pub fn apart(grammar: &Grammar, production: &Production) -> Ties {
-        let mut labels = [NONE; 40];
+        let mut labels = [NONE; LABELS];
         for (slot, &settings) in grammar.settings_by_slot(production).iter().enumerate() {
             for setting in 0..settings {
-                labels[8 * slot + setting] = (8 * slot + setting) as u8;
+                labels[SETTINGS * slot + setting] = (SETTINGS * slot + setting) as u8;
             }
         }
         relabel(&mut labels);
@@ -83,7 +84,7 @@ impl Ties {
                 earlier = setting - 1..setting;
             }
             if let Some(first) = earlier.into_iter().find(|&other| label_in(code, other) == label) {
-                self.tie(8 * slot + first, 8 * slot + setting);
+                self.tie(SETTINGS * slot + first, SETTINGS * slot + setting);
             }
         }
         relabel(&mut self.0);
@@ -92,13 +93,13 @@ impl Ties {
 
     /// The projection that drops one slot.
     pub fn without(mut self, slot: usize) -> Ties {
-        self.0[8 * slot..8 * slot + 8].fill(NONE);
+        self.0[SETTINGS * slot..][..SETTINGS].fill(NONE);
         relabel(&mut self.0);
         self
     }
 
     /// The projection on one slot, as a code.
     pub fn on(&self, slot: usize, settings: usize) -> Code {
-        code_of(&self.0[8 * slot..8 * slot + settings])
+        code_of(&self.0[SETTINGS * slot..][..settings])
     }
 }

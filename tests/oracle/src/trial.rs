@@ -9,15 +9,17 @@ use crate::sheet::{read_sheet, settings};
 use crate::walk::{number_sheet, Tables};
 use std::fmt::Display;
 
-/// Rooms, in elements: a request over them is refused with 30.
-const BOOK: usize = 40_000;
-const SHEET: usize = 5_000;
-const SETS: usize = 2_200;
-const COUNTS: usize = 64;
-const UP: usize = 16_384;
-const DOWN: usize = 131_072;
-const NODES: usize = 12_500;
-const GROUPS: usize = 33_000;
+/// The room for each argument, in elements: a request over one of them is refused with 30.
+pub mod room {
+    pub const BOOK: usize = 40_000;
+    pub const SHEET: usize = 5_000;
+    pub const SETS: usize = 2_200;
+    pub const COUNTS: usize = 64;
+    pub const UP: usize = 16_384;
+    pub const DOWN: usize = 131_072;
+    pub const NODES: usize = 12_500;
+    pub const GROUPS: usize = 33_000;
+}
 
 /// What is left of a request's arguments.
 struct Arguments<'a>(&'a [u8]);
@@ -62,13 +64,13 @@ fn outcome<T>(answer: Result<T, Refusal>, accepted: impl Fn(T) -> String) -> Str
 }
 
 fn book_call(mut arguments: Arguments) -> Option<String> {
-    let book = arguments.bytes(BOOK)?;
+    let book = arguments.bytes(room::BOOK)?;
     arguments.end()?;
     Some(outcome(check_book(&book), |g| format!("{} {}", g.kinds.len(), g.productions.len())))
 }
 
 fn sheet_check_call(mut arguments: Arguments) -> Option<String> {
-    let (book, sheet) = (arguments.bytes(BOOK)?, arguments.bytes(SHEET)?);
+    let (book, sheet) = (arguments.bytes(room::BOOK)?, arguments.bytes(room::SHEET)?);
     arguments.end()?;
     let read = check_book(&book).and_then(|grammar| {
         let nodes = read_sheet(&grammar, &sheet)?;
@@ -78,14 +80,14 @@ fn sheet_check_call(mut arguments: Arguments) -> Option<String> {
 }
 
 fn build_call(mut arguments: Arguments) -> Option<String> {
-    let book = arguments.bytes(BOOK)?;
+    let book = arguments.bytes(room::BOOK)?;
     let mut lent = Lent {
-        plausible: arguments.numbers(SETS, |n| n as u32)?,
-        plausible_counts: arguments.bytes(COUNTS)?,
-        feasible: arguments.numbers(SETS, |n| n as u32)?,
-        feasible_counts: arguments.bytes(COUNTS)?,
-        up: arguments.bytes(UP)?,
-        down: arguments.bytes(DOWN)?,
+        plausible: arguments.numbers(room::SETS, |n| n as u32)?,
+        plausible_counts: arguments.bytes(room::COUNTS)?,
+        feasible: arguments.numbers(room::SETS, |n| n as u32)?,
+        feasible_counts: arguments.bytes(room::COUNTS)?,
+        up: arguments.bytes(room::UP)?,
+        down: arguments.bytes(room::DOWN)?,
     };
     arguments.end()?;
     let mut text = outcome(build(&book, &mut lent), |(up, down)| format!("{up} {down}"));
@@ -99,15 +101,15 @@ fn build_call(mut arguments: Arguments) -> Option<String> {
 }
 
 fn number_call(mut arguments: Arguments) -> Option<String> {
-    let (book, sheet) = (arguments.bytes(BOOK)?, arguments.bytes(SHEET)?);
+    let (book, sheet) = (arguments.bytes(room::BOOK)?, arguments.bytes(room::SHEET)?);
     let tables = Tables {
-        plausible_counts: arguments.bytes(COUNTS)?,
-        feasible_counts: arguments.bytes(COUNTS)?,
-        up: arguments.bytes(UP)?,
-        down: arguments.bytes(DOWN)?,
+        plausible_counts: arguments.bytes(room::COUNTS)?,
+        feasible_counts: arguments.bytes(room::COUNTS)?,
+        up: arguments.bytes(room::UP)?,
+        down: arguments.bytes(room::DOWN)?,
     };
-    let mut nodes = arguments.numbers(NODES, |n| n)?;
-    let mut groups = arguments.numbers(GROUPS, |n| n as u16)?;
+    let mut nodes = arguments.numbers(room::NODES, |n| n)?;
+    let mut groups = arguments.numbers(room::GROUPS, |n| n as u16)?;
     arguments.end()?;
     let answer = number_sheet(&book, &sheet, &tables, &mut nodes, &mut groups);
     let mut text = outcome(answer, |(nodes, settings, groups)| format!("{nodes} {settings} {groups}"));
@@ -117,7 +119,7 @@ fn number_call(mut arguments: Arguments) -> Option<String> {
 }
 
 fn blocks_call(mut arguments: Arguments) -> Option<String> {
-    let down = arguments.bytes(DOWN)?;
+    let down = arguments.bytes(room::DOWN)?;
     let (entry, label) = (arguments.numbers(1, |n| n)?, arguments.bytes(1)?);
     arguments.end()?;
     let set = occurrences(&down, *entry.first()?, *label.first()?);

@@ -1,8 +1,9 @@
 //! The sheet call: refusals 1 to 9 and 20 to 25, ranks and group numbers over anyone's tables.
 
 use crate::book::{check_book, Grammar};
-use crate::entries::{choice, choices, down_start, up_start, DOWN};
+use crate::entries::{choice, choices, down_start, up_start};
 use crate::faults::{limit, wrong};
+use crate::limits::{ENTRY, LABELS, MEMBERS, SETTINGS};
 use crate::refusal::{refuse, Refusal};
 use crate::sheet::{read_sheet, settings, settings_at, Node};
 
@@ -65,9 +66,9 @@ pub fn number_sheet(
     Ok((nodes.len(), settings, groups))
 }
 
-/// Refusal 25 for a count over 64, of every kind, whether or not the sheet uses it.
+/// Refusal 25 for a count over that of a set's places, of every kind, whether or not the sheet uses it.
 fn check_counts(tables: &Tables, n: usize) -> Result<(), Refusal> {
-    let most = limit("count", 64);
+    let most = limit("count", MEMBERS);
     let read = if wrong("counts-past-n") { usize::MAX } else { n };
     let mut counts = tables.plausible_counts.iter().take(read).chain(tables.feasible_counts.iter().take(read));
     if counts.any(|&count| count as usize > most) {
@@ -116,10 +117,10 @@ fn choose_downward(
     let mut chosen = Vec::new();
     for (position, node) in nodes.iter().enumerate() {
         let entry = down_number(grammar, node, tables, &child_ranks(node, plausible), feasible[position]);
-        if (entry + 1) * DOWN as u64 > tables.down.len() as u64 {
+        if (entry + 1) * ENTRY as u64 > tables.down.len() as u64 {
             return refuse(25, position);
         }
-        let ranks = &tables.down[entry as usize * DOWN + 40..];
+        let ranks = &tables.down[entry as usize * ENTRY + LABELS..];
         for (&child, &rank) in node.children.iter().zip(ranks) {
             if rank >= counts[grammar.productions[nodes[child].production].left] {
                 return refuse(25, if wrong("bad-rank-at-child") { child } else { position });
@@ -145,7 +146,7 @@ fn number_groups(grammar: &Grammar, nodes: &[Node], tables: &Tables, chosen: &[C
     let mut next = 0;
     let mut before = Vec::new();
     for (position, node) in nodes.iter().enumerate() {
-        let labels = &tables.down[chosen[position].entry as usize * DOWN..][..40];
+        let labels = &tables.down[chosen[position].entry as usize * ENTRY..][..LABELS];
         // Label and number of the occurrences of this instance that have their number.
         let own = numbers[position].iter().enumerate();
         let mut earlier: Vec<(u8, usize)> = own.map(|(setting, &number)| (labels[setting], number)).collect();
@@ -155,7 +156,7 @@ fn number_groups(grammar: &Grammar, nodes: &[Node], tables: &Tables, chosen: &[C
         let slots = std::iter::once(&position).chain(&node.children).enumerate();
         for (slot, &at) in slots.skip(if position == 0 { 0 } else { 1 }) {
             for setting in 0..settings_at(grammar, &nodes[at]) {
-                let label = labels[8 * slot + setting];
+                let label = labels[SETTINGS * slot + setting];
                 let number = same_label(&earlier, label).unwrap_or_else(|| {
                     next += 1;
                     next - 1

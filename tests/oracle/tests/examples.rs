@@ -3,6 +3,7 @@
 use oracle::book::{check_book, FIG_1};
 use oracle::build::{build, Lent};
 use oracle::groups::groups;
+use oracle::limits::{ENTRY, INPUT, LABELS, LARGEST_BOOK};
 use oracle::passes::sets;
 use oracle::ties::code_of;
 
@@ -29,13 +30,13 @@ fn the_entries_of_fig_1() {
         feasible: vec![7; 200],
         feasible_counts: vec![7; 4],
         up: vec![7; 10],
-        down: vec![7; 24 * 44 + 43],
+        down: vec![7; 25 * ENTRY - 1],
     };
     assert_eq!(build(&FIG_1, &mut lent), Ok((9, 24)));
     assert_eq!(lent.plausible[..3], [0, 8, 0]);
     assert!(lent.plausible[192..].iter().all(|&place| place == 7), "places past 64N stay");
     assert_eq!((lent.plausible_counts[3], lent.up[9]), (7, 7));
-    assert!(lent.down[24 * 44..].iter().all(|&byte| byte == 7), "a rest is no entry");
+    assert!(lent.down[24 * ENTRY..].iter().all(|&byte| byte == 7), "a rest is no entry");
 }
 
 #[test]
@@ -61,9 +62,28 @@ fn eight_settings_apart_and_together() {
     assert_eq!(code_of(&[0; 8]), 0);
 }
 
+/// What is worked out from the limits is what the page says.
+#[test]
+fn the_numbers_of_the_page() {
+    assert_eq!((LABELS, ENTRY), (40, 44));
+    assert_eq!((LARGEST_BOOK, INPUT), (33_164, 37_262));
+}
+
 #[test]
 fn eleven_bytes() {
     assert_eq!(groups(&input(&[0], &FIG_1[..11])), "refused 1 0\n");
+}
+
+/// A kind and a production of it, and zeros up to a trailer that no distance reaches back from: they are right only
+/// where 65,536 is taken for 0. Such books are over the room of `trial`; tests/c/checks.c has them too.
+#[test]
+fn books_longer_than_a_distance() {
+    for trailer in [65_536, 99_988] {
+        let mut book = vec![0; trailer];
+        let fields = [1, 1, 1, 0, (trailer % 65_536) as u16, ((trailer - 2) % 65_536) as u16];
+        book.extend(fields.iter().flat_map(|field| field.to_le_bytes()));
+        assert_eq!(check_book(&book).unwrap_err().to_string(), "refused 4 0");
+    }
 }
 
 /// S to X; X to X; X to nothing; no settings.

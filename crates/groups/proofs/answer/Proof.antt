@@ -1,5 +1,5 @@
 use native.Mathlib.Omega.{arith}
-use Rattle.groups.proofs.Cutting.{within}
+use Rattle.groups.proofs.Cutting.{within, answer-thirty, answer-taken}
 use borrow.Author.Needs.{needs}
 use Rattle.groups.proofs.answer.Statement.{statement}
 use Rattle.groups.proofs.answer.Tie as tie
@@ -37,11 +37,17 @@ part-build-end-2 c = search needs
 build-requires : tie.Need-build-requires
 build-requires c κs = search needs
 
+same-length : tie.Need-same-length
+same-length c = search needs
+
 returns : tie.Need-returns
-returns c = search needs
+returns c = (c .before .before .refused .ensures .within, answer-thirty (c .before .before .before .before .before .before .cut .ensures) (c .before .before .before .before .enum-told .given .1) (c .before .before .refused .ensures .this))
+
+same-length-2 : tie.Need-same-length-2
+same-length-2 c = search needs
 
 returns-2 : tie.Need-returns-2
-returns-2 c = search needs
+returns-2 c = (c .before .before .build .ensures .0, answer-taken (c .before .before .before .before .before .before .before .before .before .cut .ensures) (c .before .before .before .before .before .before .before .end .given .1) (c .before .before .build .ensures .1))
 
 pub answer-spec : {M : Type 1} → statement M
 answer-spec =
@@ -58,5 +64,7 @@ answer-spec =
     part-build-start-2
     part-build-end-2
     build-requires
+    same-length
     returns
+    same-length-2
     returns-2)

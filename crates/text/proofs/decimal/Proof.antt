@@ -1,3 +1,5 @@
+use mathlib.Core.Path.{_∙_}
+use Rattle.text.proofs.Spelling.{digits-decimals}
 use borrow.Author.Needs.{needs}
 use Rattle.text.proofs.decimal.Statement.{statement}
 use Rattle.text.proofs.decimal.Tie as tie
@@ -18,7 +20,9 @@ same-length : tie.Need-same-length
 same-length c = search needs
 
 returns : tie.Need-returns
-returns c = record { places = c .before .before .before .before .before .decimal .result; fewest = c .before .before .before .before .before .decimal .ensures .1 .0; put = rw (← c .before .before .before .before .before .decimal .ensures .1 .1) (c .before .before .word .ensures) }
+returns c =
+    let d = c .before .before .before .before .before .decimal in
+    rw (← d .ensures .1 .1 ∙ digits-decimals _ _ (d .ensures .1 .0)) (c .before .before .word .ensures)
 
 pub decimal-spec : {M : Type 1} → statement M
 decimal-spec =

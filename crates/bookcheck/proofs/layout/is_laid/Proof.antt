@@ -2,6 +2,7 @@ use Prim.Native.Nat.{_-_}
 use native.Mathlib.Omega.{arith}
 use lib.ListN.{length}
 use borrow.Author.Needs.{needs}
+use Rattle.book.specs.Format.{trailer-bytes}
 use Rattle.bookcheck.proofs.Laying.{told-is, laid-by-walk}
 use Rattle.bookcheck.proofs.Answers.{tells-no}
 use Rattle.bookcheck.proofs.layout.is_laid.Statement.{statement}
@@ -58,7 +59,7 @@ returns-3 c =
     let p = told-is b 5 (omega arith) in
     let n = told-is b 1 (omega arith) in
     let m = told-is b 2 (omega arith) in
-    let at = length b - 12 - c .before .before .before .before .before .span2 .result in
+    let at = length b - trailer-bytes - c .before .before .before .before .before .span2 .result in
     laid-by-walk b (c .before .productions .result) at (c .walks .ensures) (omega arith) (omega arith) (omega arith) (omega arith) (omega arith)
 
 pub is-laid-spec : {M : Type 1} → statement M

@@ -1,22 +1,18 @@
 use mathlib.Core.Path.{refl}
 use Prim.Native.Nat.{_-_}
 use native.Mathlib.Omega.{arith}
+use borrow.Author.Tests.{not-true, not-false}
 use Rattle.numbering.proofs.Words.{wide, wide-below, next-byte, less-left, place-after, place-twice, place-wide}
 use Rattle.numbering.proofs.Children.{opened, kid-low, end-low}
 use Rattle.numbering.proofs.Handing.{Handing, handing-none, handing-inside, handing-turn, handing-bad, handing-done}
 use Rattle.numbering.proofs.downward.hand_down.Statement.{statement}
 use Rattle.numbering.proofs.downward.hand_down.Tie as tie
-use Rattle.numbering.proofs.downward.hand_down.Reads as reads
-use Rattle.numbering.proofs.downward.hand_down.Lts as lts
-use Rattle.book.proofs.arity.Reads as arity-reads
-use Rattle.book.proofs.kid.Reads as kid-reads
-use Rattle.ranks.proofs.child_rank.Reads as child-rank-reads
 
 abbrev Inv-loop : tie.InvT-loop
-Inv-loop book places p counts down entry ends i feasible₀ at kids child₀ j₀ feasible child j = Handing book counts down entry p at kids ends i feasible₀ feasible child j
+Inv-loop book places p counts down entry ends i kept₀ at kids child₀ j₀ kept child j = Handing book counts down entry p at kids ends i kept₀ kept child j
 
 abbrev μ-loop : tie.MeasureT-loop
-μ-loop book places p counts down entry ends i feasible₀ at kids child₀ j₀ feasible child j = kids - j
+μ-loop book places p counts down entry ends i kept₀ at kids child₀ j₀ kept child j = kids - j
 
 mul-at : tie.Need-mul-at Inv-loop μ-loop
 mul-at c = omega arith
@@ -31,7 +27,9 @@ add-child : tie.Need-add-child Inv-loop μ-loop
 add-child c = place-after (c .before .before .before .before .before .pre .5 .inside)
 
 loop-holds : tie.Need-loop-holds Inv-loop μ-loop
-loop-holds c = handing-none _ (opened (c .before .before .before .before .before .pre .0) (c .before .before .before .before .before .pre .1) refl (c .arity .ensures)) (c .before .before .before .before .before .pre .5) (c .before .before .before .before .before .pre .3)
+loop-holds c =
+    let pre = c .before .before .before .before .before .pre in
+    handing-none _ (opened (pre .0) (pre .1) refl (c .arity .ensures)) (pre .5) (pre .3)
 
 cast-child-rank : tie.Need-cast-child-rank Inv-loop μ-loop
 cast-child-rank c = wide-below (c .loop-test .taken) (c .before .before .arity .ok)
@@ -45,32 +43,34 @@ kid-requires c κs = tt
 cast-kind : tie.Need-cast-kind Inv-loop μ-loop
 cast-kind c = wide (c .kid .ok)
 
-shared-slice-read-if1 : tie.Need-shared-slice-read-if1 Inv-loop μ-loop
-shared-slice-read-if1 c = omega (arith, kid-low (c .before .before .before .before .loop .inv .opened) _ (c .before .before .before .loop-test .taken) (c .before .kid .ensures), c .before .before .before .before .before .before .before .before .before .before .pre .2)
+shared-slice-read-keep-feasible : tie.Need-shared-slice-read-keep-feasible Inv-loop μ-loop
+shared-slice-read-keep-feasible c = omega (arith, kid-low (c .before .before .before .before .before .loop .inv .opened) _ (c .before .before .before .before .loop-test .taken) (c .before .before .kid .ensures), c .before .before .before .before .before .before .before .before .before .before .before .pre .2)
+
+keep-feasible-requires : tie.Need-keep-feasible-requires Inv-loop μ-loop
+keep-feasible-requires c κs = (handing-inside (c .before .before .before .before .before .loop .inv) (c .before .before .before .before .loop-test .taken), c .before .before .before .before .before .loop .inv .long)
 
 returns : tie.Need-returns Inv-loop μ-loop
-returns c = handing-bad (c .before .before .before .before .before .before .loop .inv) (c .before .before .before .before .before .loop-test .taken) (c .before .before .before .kid .ensures) (c .before .before .before .before .child-rank .ensures) (c .if1 .taken)
-
-element-write-feasible : tie.Need-element-write-feasible Inv-loop μ-loop
-element-write-feasible c = handing-inside (c .before .before .before .before .before .before .loop .inv) (c .before .before .before .before .before .loop-test .taken)
+returns c = handing-bad (c .before .before .before .before .before .before .before .loop .inv) (c .before .before .before .before .before .before .loop-test .taken) (c .before .before .before .before .kid .ensures) (c .before .before .before .before .before .child-rank .ensures) (c .before .keep-feasible .ensures) (not-true _ (c .if1 .taken))
 
 mul-child : tie.Need-mul-child Inv-loop μ-loop
-mul-child c = place-twice (handing-inside (c .before .before .before .before .before .before .loop .inv) (c .before .before .before .before .before .loop-test .taken))
+mul-child c = place-twice (handing-inside (c .before .before .before .before .before .before .before .loop .inv) (c .before .before .before .before .before .before .loop-test .taken))
 
 element-copy-out-child : tie.Need-element-copy-out-child Inv-loop μ-loop
-element-copy-out-child c = handing-inside (c .before .before .before .before .before .before .loop .inv) (c .before .before .before .before .before .loop-test .taken)
+element-copy-out-child c = handing-inside (c .before .before .before .before .before .before .before .loop .inv) (c .before .before .before .before .before .before .loop-test .taken)
 
 cast-child : tie.Need-cast-child Inv-loop μ-loop
-cast-child c = place-wide (end-low (c .before .before .before .before .before .before .before .loop .inv .children) (c .before .before .before .before .before .before .loop-test .taken) (c .before .before .before .before .before .before .before .loop .inv .stands))
+cast-child c =
+    let h = c .before .before .before .before .before .before .before .before .loop .inv in
+    place-wide (end-low (h .children) (c .before .before .before .before .before .before .before .loop-test .taken) (h .stands))
 
 add-j : tie.Need-add-j Inv-loop μ-loop
-add-j c = next-byte (c .before .before .before .before .before .before .loop-test .taken) (c .before .before .before .before .before .before .before .before .arity .ok)
+add-j c = next-byte (c .before .before .before .before .before .before .before .loop-test .taken) (c .before .before .before .before .before .before .before .before .before .arity .ok)
 
 loop-less : tie.Need-loop-less Inv-loop μ-loop
-loop-less c = less-left (c .before .before .before .before .before .before .loop-test .taken)
+loop-less c = less-left (c .before .before .before .before .before .before .before .loop-test .taken)
 
 loop-again : tie.Need-loop-again Inv-loop μ-loop
-loop-again c = handing-turn (c .before .before .before .before .before .before .before .loop .inv) (c .before .before .before .before .before .before .loop-test .taken) (c .before .before .before .before .kid .ensures) (c .before .before .before .before .before .child-rank .ensures) (omega arith) refl
+loop-again c = handing-turn (c .before .before .before .before .before .before .before .before .loop .inv) (c .before .before .before .before .before .before .before .loop-test .taken) (c .before .before .before .before .before .kid .ensures) (c .before .before .before .before .before .before .child-rank .ensures) (c .before .before .keep-feasible .ensures) (not-false _ (c .before .if1 .left)) refl
 
 returns-2 : tie.Need-returns-2 Inv-loop μ-loop
 returns-2 c = handing-done (c .before .loop .inv) (c .loop-test .left)
@@ -90,9 +90,9 @@ hand-down-spec =
     child-rank-requires
     kid-requires
     cast-kind
-    shared-slice-read-if1
+    shared-slice-read-keep-feasible
+    keep-feasible-requires
     returns
-    element-write-feasible
     mul-child
     element-copy-out-child
     cast-child

@@ -8,22 +8,22 @@ use Rattle.numbering.proofs.Trees.{node-at}
 use Rattle.numbering.proofs.DownReads.{DownGoing, going-none, going-children, going-bad, going-turn, going-done}
 use Rattle.numbering.proofs.downward.read_downward.Statement.{statement}
 use Rattle.numbering.proofs.downward.read_downward.Tie as tie
-use Rattle.numbering.proofs.downward.read_downward.Reads as reads
-use Rattle.numbering.proofs.downward.read_downward.Lts as lts
-use Rattle.numbering.proofs.downward.read_node.Reads as read-node-reads
-use Rattle.numbering.proofs.starts.down_starts.Reads as down-starts-reads
 
 abbrev Inv-loop : tie.InvT-loop
-Inv-loop book places sheet counts feasible-counts down plausible ends feasible₀ entries₀ starts i₀ feasible entries i = DownGoing book sheet counts feasible-counts down plausible ends feasible₀ feasible entries i
+Inv-loop book places sheet counts feasible-counts down ends kept₀ entries₀ starts i₀ kept entries i = DownGoing book sheet counts feasible-counts down ends kept₀ kept entries i
 
 abbrev μ-loop : tie.MeasureT-loop
-μ-loop book places sheet counts feasible-counts down plausible ends feasible₀ entries₀ starts i₀ feasible entries i = length sheet - i
+μ-loop book places sheet counts feasible-counts down ends kept₀ entries₀ starts i₀ kept entries i = length sheet - i
 
 down-starts-requires : tie.Need-down-starts-requires Inv-loop μ-loop
-down-starts-requires c κs = search needs
+down-starts-requires c κs =
+    let pre = c .before .before .before .before .before .pre in
+    (pre .0, pre .2, pre .3)
 
 loop-holds : tie.Need-loop-holds Inv-loop μ-loop
-loop-holds c = going-none (c .before .before .before .before .before .before .pre .1 .few) (c .before .before .before .before .before .before .pre .6) (c .before .before .before .before .before .before .pre .7)
+loop-holds c =
+    let pre = c .before .before .before .before .before .before .pre in
+    going-none (pre .1 .few) (pre .5) (pre .6)
 
 shared-slice-read-p : tie.Need-shared-slice-read-p Inv-loop μ-loop
 shared-slice-read-p c = c .before .loop-test .taken
@@ -35,28 +35,24 @@ mul-read-node : tie.Need-mul-read-node Inv-loop μ-loop
 mul-read-node c = omega (arith, c .shared-slice-known6 .given (c .before .before .loop .i))
 
 array-read-read-node : tie.Need-array-read-read-node Inv-loop μ-loop
-array-read-read-node c = omega (arith, node-at (c .before .before .before .before .before .before .before .before .before .pre .1 .tree-of) (c .before .before .loop .i) (c .before .loop-test .taken) .known, c .before .before .before .before .before .before .before .before .before .pre .0 .accepted .few-prods)
+array-read-read-node c =
+    let pre = c .before .before .before .before .before .before .before .before .before .pre in
+    omega (arith, node-at (pre .1 .tree-of) (c .before .before .loop .i) (c .before .loop-test .taken) .known, pre .0 .accepted .few-prods)
 
 read-node-requires : tie.Need-read-node-requires Inv-loop μ-loop
 read-node-requires c κs =
-    let known = node-at (c .before .before .before .before .before .before .before .before .before .before .pre .1 .tree-of) (c .before .before .before .loop .i) (c .before .before .loop-test .taken) .known in
-    let t = c .before .before .before .before .before .before .before .before .before .before .pre .1 .tree-of in (
-      c .before .before .before .before .before .before .before .before .before .before .pre .0,
-      known,
-      c .before .before .before .before .before .before .before .before .before .before .pre .2,
-      c .before .before .before .before .before .before .before .before .before .before .pre .3,
-      c .before .before .before .before .down-starts .ensures .each _ known,
-      c .before .before .before .before .before .before .before .before .before .before .pre .4,
-      c .before .before .before .before .before .before .before .before .before .before .pre .5,
-      c .before .before .before .loop .inv .feasible-long,
-      going-children (c .before .before .before .loop .inv) t (c .before .before .before .before .before .before .before .before .before .before .pre .8 t) (c .before .before .before .before .before .before .before .before .before .before .pre .0 .accepted) (c .before .before .loop-test .taken) _ refl,
-    )
+    let pre = c .before .before .before .before .before .before .before .before .before .before .pre in
+    let g = c .before .before .before .loop .inv in
+    let t = pre .1 .tree-of in
+    let more = c .before .before .loop-test .taken in
+    let known = node-at t (c .before .before .before .loop .i) more .known in
+    (pre .0, known, pre .2, pre .3, c .before .before .before .before .down-starts .ensures .each _ known, pre .4, g .kept-long, going-children g t (pre .7 t) (pre .0 .accepted) more _ refl)
 
 enum-told : tie.Need-enum-told Inv-loop μ-loop
 enum-told c = search needs
 
-cast-t25 : tie.Need-cast-t25 Inv-loop μ-loop
-cast-t25 c = omega (arith, c .before .before .before .before .before .before .loop .inv .few)
+cast-t24 : tie.Need-cast-t24 Inv-loop μ-loop
+cast-t24 c = omega (arith, c .before .before .before .before .before .before .loop .inv .few)
 
 returns : tie.Need-returns Inv-loop μ-loop
 returns c = going-bad (c .before .before .before .before .before .before .loop .inv) (c .before .before .before .before .before .loop-test .taken) refl (c .before .before .read-node .ensures) (c .enum-told .given .1)
@@ -96,7 +92,7 @@ read-downward-spec =
     array-read-read-node
     read-node-requires
     enum-told
-    cast-t25
+    cast-t24
     returns
     enum-known-entry
     mul-entries

@@ -1,18 +1,10 @@
 use mathlib.Core.Path.{refl}
-use Prim.Native.Nat.{_-_}
 use native.Mathlib.Omega.{arith}
 use borrow.Author.Needs.{needs}
 use Rattle.numbering.proofs.Children.{opened}
 use Rattle.numbering.proofs.DownReads.{down-asked, read-past, read-high, read-good}
 use Rattle.numbering.proofs.downward.read_node.Statement.{statement}
 use Rattle.numbering.proofs.downward.read_node.Tie as tie
-use Rattle.numbering.proofs.downward.read_node.Reads as reads
-use Rattle.numbering.proofs.downward.read_node.Lts as lts
-use Rattle.book.proofs.arity.Reads as arity-reads
-use Rattle.numbering.proofs.downward.hand_down.Reads as hand-down-reads
-use Rattle.numbering.proofs.kin.kid_counts.Reads as kid-counts-reads
-use Rattle.numbering.proofs.kin.kin_of.Reads as kin-of-reads
-use Rattle.ranks.proofs.read_down.Reads as read-down-reads
 
 mul-at : tie.Need-mul-at
 mul-at c = omega arith
@@ -24,13 +16,17 @@ arity-requires : tie.Need-arity-requires
 arity-requires c κs = tt
 
 kin-of-requires : tie.Need-kin-of-requires
-kin-of-requires c κs = (c .before .before .before .before .before .before .pre .5, c .before .before .before .before .before .before .pre .6, rw ((opened (c .before .before .before .before .before .before .pre .0) (c .before .before .before .before .before .before .pre .1) refl (c .arity .ensures)) .count) (c .before .before .before .before .before .before .pre .8))
+kin-of-requires c κs =
+    let pre = c .before .before .before .before .before .before .before .pre in
+    (pre .6, pre .5, rw (opened (pre .0) (pre .1) refl (c .before .arity .ensures) .count) (pre .7))
 
-element-copy-out-t21 : tie.Need-element-copy-out-t21
-element-copy-out-t21 c = omega (arith, c .before .before .before .before .before .before .before .before .pre .8 .inside)
+feasible-of-requires : tie.Need-feasible-of-requires
+feasible-of-requires c κs = (c .before .before .before .before .before .before .before .before .before .before .pre .7 .inside, c .before .before .before .before .before .before .before .before .before .before .pre .6)
 
 kid-counts-requires : tie.Need-kid-counts-requires
-kid-counts-requires c κs = search needs
+kid-counts-requires c κs =
+    let pre = c .before .before .before .before .before .before .before .before .before .before .before .pre in
+    (pre .0, pre .1, pre .2)
 
 read-down-requires : tie.Need-read-down-requires
 read-down-requires c κs = tt
@@ -42,16 +38,30 @@ enum-known-entry : tie.Need-enum-known-entry
 enum-known-entry c = search needs
 
 hand-down-requires : tie.Need-hand-down-requires
-hand-down-requires c κs = (c .before .before .before .before .before .before .before .before .before .before .before .before .before .before .before .pre .0, c .before .before .before .before .before .before .before .before .before .before .before .before .before .before .before .pre .1, c .before .before .before .before .before .before .before .before .before .before .before .before .before .before .before .pre .3, c .before .before .before .before .before .before .before .before .before .before .before .before .before .before .before .pre .7, c .before .before .before .before .before .before .before .before .before .before .before .before .before .before .before .pre .6, c .before .before .before .before .before .before .before .before .before .before .before .before .before .before .before .pre .8)
+hand-down-requires c κs =
+    let pre = c .before .before .before .before .before .before .before .before .before .before .before .before .before .before .before .before .before .pre in
+    (pre .0, pre .1, pre .3, pre .6, pre .5, pre .7)
 
 returns : tie.Need-returns
-returns c = read-good (down-asked (opened (c .before .before .before .before .before .before .before .before .before .before .before .before .before .before .before .before .before .pre .0) (c .before .before .before .before .before .before .before .before .before .before .before .before .before .before .before .before .before .pre .1) refl (c .before .before .before .before .before .before .before .before .before .before .before .arity .ensures)) (c .before .before .before .before .before .before .before .kid-counts .ensures) (c .before .before .before .before .before .before .before .before .before .before .kin-of .ensures) (c .before .before .before .before .before .before .before .before .before .before .before .before .before .before .before .before .before .pre .4)) (c .before .before .before .before .before .before .read-down .ensures) (c .before .before .before .before .entry .given .1) _ refl (c .before .hand-down .ensures) (c .if1 .taken)
+returns c =
+    let pre = c .before .before .before .before .before .before .before .before .before .before .before .before .before .before .before .before .before .before .before .pre in
+    let o = opened (pre .0) (pre .1) refl (c .before .before .before .before .before .before .before .before .before .before .before .before .before .arity .ensures) in
+    let asked = down-asked o (c .before .before .before .before .before .before .before .kid-counts .ensures) (c .before .before .before .before .before .before .before .before .before .before .before .kin-of .ensures) (pre .4) in
+    read-good _ asked (c .before .before .before .before .before .before .read-down .ensures) (c .before .before .before .before .entry .given .1) (c .before .before .before .before .before .before .before .before .feasible-of .ensures) (c .before .hand-down .ensures) (c .if1 .taken)
 
 returns-2 : tie.Need-returns-2
-returns-2 c = read-past (down-asked (opened (c .before .before .before .before .before .before .before .before .before .before .before .before .before .pre .0) (c .before .before .before .before .before .before .before .before .before .before .before .before .before .pre .1) refl (c .before .before .before .before .before .before .before .arity .ensures)) (c .before .before .before .kid-counts .ensures) (c .before .before .before .before .before .before .kin-of .ensures) (c .before .before .before .before .before .before .before .before .before .before .before .before .before .pre .4)) _ refl (c .before .before .read-down .ensures) (c .enum-told .given .1)
+returns-2 c =
+    let pre = c .before .before .before .before .before .before .before .before .before .before .before .before .before .before .before .pre in
+    let o = opened (pre .0) (pre .1) refl (c .before .before .before .before .before .before .before .before .before .arity .ensures) in
+    let asked = down-asked o (c .before .before .before .kid-counts .ensures) (c .before .before .before .before .before .before .before .kin-of .ensures) (pre .4) in
+    read-past _ asked (c .before .before .before .before .feasible-of .ensures) (c .before .before .read-down .ensures) (c .enum-told .given .1)
 
 returns-3 : tie.Need-returns-3
-returns-3 c = read-high (down-asked (opened (c .before .before .before .before .before .before .before .before .before .before .before .before .before .before .before .before .before .pre .0) (c .before .before .before .before .before .before .before .before .before .before .before .before .before .before .before .before .before .pre .1) refl (c .before .before .before .before .before .before .before .before .before .before .before .arity .ensures)) (c .before .before .before .before .before .before .before .kid-counts .ensures) (c .before .before .before .before .before .before .before .before .before .before .kin-of .ensures) (c .before .before .before .before .before .before .before .before .before .before .before .before .before .before .before .before .before .pre .4)) (c .before .before .before .before .before .before .read-down .ensures) (c .before .before .before .before .entry .given .1) _ refl (c .before .hand-down .ensures) (c .if1 .left)
+returns-3 c =
+    let pre = c .before .before .before .before .before .before .before .before .before .before .before .before .before .before .before .before .before .before .before .pre in
+    let o = opened (pre .0) (pre .1) refl (c .before .before .before .before .before .before .before .before .before .before .before .before .before .arity .ensures) in
+    let asked = down-asked o (c .before .before .before .before .before .before .before .kid-counts .ensures) (c .before .before .before .before .before .before .before .before .before .before .before .kin-of .ensures) (pre .4) in
+    read-high _ asked (c .before .before .before .before .before .before .read-down .ensures) (c .before .before .before .before .entry .given .1) (c .before .before .before .before .before .before .before .before .feasible-of .ensures) (c .before .hand-down .ensures) (c .if1 .left)
 
 pub read-node-spec : {M : Type 1} → statement M
 read-node-spec =
@@ -61,7 +71,7 @@ read-node-spec =
     element-copy-out-at
     arity-requires
     kin-of-requires
-    element-copy-out-t21
+    feasible-of-requires
     kid-counts-requires
     read-down-requires
     enum-told

@@ -1,30 +1,32 @@
 use mathlib.Core.Path.{refl}
 use Prim.Native.Nat.{_-_}
 use native.Mathlib.Omega.{arith}
+use Rattle.numbering.specs.KeptRanks.{plausible-ranks}
 use Rattle.numbering.proofs.Words.{wide-below, next-byte, less-left, place-after, place-twice, place-wide}
 use Rattle.numbering.proofs.Children.{end-low, Ranking, ranking-none, ranking-inside, ranking-turn, ranking-done}
 use Rattle.numbering.proofs.kin.kin_of.Statement.{statement}
 use Rattle.numbering.proofs.kin.kin_of.Tie as tie
-use Rattle.numbering.proofs.kin.kin_of.Reads as reads
-use Rattle.numbering.proofs.kin.kin_of.Lts as lts
 
 abbrev Inv-loop : tie.InvT-loop
-Inv-loop plausible ends i kids ranks₀ at₀ j₀ ranks at j = Ranking plausible ends i kids ranks at j
+Inv-loop kept ends i kids ranks₀ at₀ j₀ ranks at j = Ranking (plausible-ranks kept) ends i kids ranks at j
 
 abbrev μ-loop : tie.MeasureT-loop
-μ-loop plausible ends i kids ranks₀ at₀ j₀ ranks at j = kids - j
+μ-loop kept ends i kids ranks₀ at₀ j₀ ranks at j = kids - j
+
+past-the-last-requires : tie.Need-past-the-last-requires Inv-loop μ-loop
+past-the-last-requires c κs = tt
 
 add-at : tie.Need-add-at Inv-loop μ-loop
-add-at c = place-after (c .pre .2 .inside)
+add-at c = place-after (c .before .pre .2 .inside)
 
 loop-holds : tie.Need-loop-holds Inv-loop μ-loop
-loop-holds c = ranking-none _ refl (c .pre .2)
+loop-holds c = ranking-none _ (c .past-the-last .ensures) (c .before .pre .2)
 
-element-copy-out-t12 : tie.Need-element-copy-out-t12 Inv-loop μ-loop
-element-copy-out-t12 c = ranking-inside (c .before .loop .inv) (c .loop-test .taken)
+plausible-of-requires : tie.Need-plausible-of-requires Inv-loop μ-loop
+plausible-of-requires c κs = (ranking-inside (c .before .loop .inv) (c .loop-test .taken), c .before .before .before .pre .0)
 
 cast-ranks : tie.Need-cast-ranks Inv-loop μ-loop
-cast-ranks c = wide-below (c .before .loop-test .taken) (c .before .before .before .fits .kids .fits)
+cast-ranks c = wide-below (c .before .loop-test .taken) (c .before .before .before .before .fits .kids .fits)
 
 array-set-from-ranks : tie.Need-array-set-from-ranks Inv-loop μ-loop
 array-set-from-ranks c = omega (arith, c .before .before .loop .inv .children .few)
@@ -39,13 +41,13 @@ cast-at : tie.Need-cast-at Inv-loop μ-loop
 cast-at c = place-wide (end-low (c .before .before .before .loop .inv .children) (c .before .before .loop-test .taken) (c .before .before .before .loop .inv .stands))
 
 add-j : tie.Need-add-j Inv-loop μ-loop
-add-j c = next-byte (c .before .before .loop-test .taken) (c .before .before .before .before .fits .kids .fits)
+add-j c = next-byte (c .before .before .loop-test .taken) (c .before .before .before .before .before .fits .kids .fits)
 
 loop-less : tie.Need-loop-less Inv-loop μ-loop
 loop-less c = less-left (c .before .before .loop-test .taken)
 
 loop-again : tie.Need-loop-again Inv-loop μ-loop
-loop-again c = (ranking-turn (c .before .before .before .loop .inv) (c .before .before .loop-test .taken) refl refl)
+loop-again c = ranking-turn (c .before .before .before .loop .inv) (c .before .before .loop-test .taken) (c .before .plausible-of .ensures) refl
 
 returns : tie.Need-returns Inv-loop μ-loop
 returns c = ranking-done (c .before .loop .inv) (c .loop-test .left)
@@ -56,9 +58,10 @@ kin-of-spec =
     (tie.spec
     Inv-loop
     μ-loop
+    past-the-last-requires
     add-at
     loop-holds
-    element-copy-out-t12
+    plausible-of-requires
     cast-ranks
     array-set-from-ranks
     mul-at

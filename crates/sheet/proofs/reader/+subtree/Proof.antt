@@ -5,7 +5,7 @@ use native.Mathlib.Omega.{arith}
 use borrow.Author.Needs.{needs}
 use borrow.Fn.Kinds.{In}
 use borrow.Fn.PlainCycle.{Measures, is, falls, and}
-use Rattle.sheet.proofs.Walk.{Children, past, children-begin, children-next, children-stop, children-end, fit-of, unfit-of}
+use Rattle.sheet.proofs.Walk.{Children, children-begin, children-next, children-stop, children-end, fit-of, unfit-of}
 use Rattle.sheet.proofs.reader.subtree.Reads as subtree
 use Rattle.sheet.proofs.reader.subtree.Kinds as subtree-kinds
 use Rattle.sheet.proofs.reader.+subtree.Lts-subtree as subtree-lts
@@ -58,9 +58,8 @@ module _ (t : ℕ) where
 
   add-sum : subtree-lts.Need-add-sum (node-at-reads.Asked, node-at-reads.Learnt, arity-reads.Asked, arity-reads.Learnt, settings-reads.Asked, settings-reads.Learnt, word-reads.Asked, word-reads.Learnt, kid-reads.Asked, kid-reads.Learnt, subtree-below t, subtree.Post) (subtree-at t) subtree.Post subtree-Inv-loop subtree-μ-loop
   add-sum c =
-      let start = c .before .before .before .before .before .before .before .before .before in
-      let f = fit-of (c .before .before .before .before .before .before .node-at .ensures) (c .before .before .before .before .entry .given .1) in
-      omega (arith, past (start .pre .1 .0) f (c .word .result) (c .word .ensures .0 ∙ c .before .settings .ensures))
+      let h = c .before .before .before .before .before .before .before .before .before .pre .1 .0 in
+      omega (arith, h .low, h .position .few-nodes, h .position .within, c .word .ensures .1)
 
   loop-holds : subtree-lts.Need-loop-holds (node-at-reads.Asked, node-at-reads.Learnt, arity-reads.Asked, arity-reads.Learnt, settings-reads.Asked, settings-reads.Learnt, word-reads.Asked, word-reads.Learnt, kid-reads.Asked, kid-reads.Learnt, subtree-below t, subtree.Post) (subtree-at t) subtree.Post subtree-Inv-loop subtree-μ-loop
   loop-holds c =

@@ -1,7 +1,5 @@
 -- A turn of a downward visit. Assumes nothing.
-use mathlib.Core.Path.{_≡_, sym, _∙_, subst₂}
-use Rattle.book.specs.Reading.{kind-in}
-use Rattle.members.specs.Sets.{Placed}
+use mathlib.Core.Path.{_≡_, sym, _∙_}
 use Rattle.tables.specs.Downward.{slot-down}
 use Rattle.tables.proofs.DownwardVisit.{given-left, given-child}
 use native.Mathlib.Omega.{arith}
@@ -15,10 +13,7 @@ slot-down-requires c κs = search needs
 open-turn-requires : tie.Need-open-turn-requires
 open-turn-requires c κs =
     let o = c .before .before .before .before .before .before .before .before .before in
-    let s = slot-down (o .args .t) (o .args .j) in
-    let z : s ≡ 0 = sym (c .before .before .slot-down .ensures) ∙ c .before .if1 .taken in
-    let p = o .pre .2 in
-    (omega (arith, o .pre .0), o .pre .1, rw (c .before .before .slot-down .ensures) (subst₂ (λ u w. Placed u w (kind-in (o .args .book .now) (o .args .at) s)) (given-left _ _ s z) (given-left _ _ s z) p))
+    (omega (arith, o .pre .0), o .pre .1, rw (c .before .before .slot-down .ensures) (search needs))
 
 same-length : tie.Need-same-length
 same-length c = search needs
@@ -34,10 +29,7 @@ returns c =
 open-turn-requires-2 : tie.Need-open-turn-requires-2
 open-turn-requires-2 c κs =
     let o = c .before .before .before .before .before .before .before .before .before in
-    let s = slot-down (o .args .t) (o .args .j) in
-    let z : (s ≡ 0 → ⊥) = λ q. c .before .if1 .left (c .before .before .slot-down .ensures ∙ q) in
-    let p = o .pre .2 in
-    (omega (arith, o .pre .0), o .pre .1, rw (c .before .before .slot-down .ensures) (subst₂ (λ u w. Placed u w (kind-in (o .args .book .now) (o .args .at) s)) (given-child _ _ s z) (given-child _ _ s z) p))
+    (omega (arith, o .pre .0), o .pre .1, rw (c .before .before .slot-down .ensures) (search needs))
 
 same-length-2 : tie.Need-same-length-2
 same-length-2 c = search needs

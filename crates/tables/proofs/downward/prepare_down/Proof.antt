@@ -33,7 +33,7 @@ open-down-requires c κs =
     let (few, low, long, s, f) = o .pre in
     let j = c .before .before .loop .j in
     let k = slot-within (o .args .t) j _ low (omega arith) in
-    (omega arith, h .1 .sized .lists, given-placed (slot-down (o .args .t) j) (f _ k) (s _ k))
+    (omega arith, h .1 .sized .lists, s _ k, f _ k)
 
 add-j : tie.Need-add-j Inv-loop μ-loop
 add-j c = search needs

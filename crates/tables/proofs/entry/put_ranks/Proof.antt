@@ -9,16 +9,16 @@ use Rattle.tables.proofs.entry.put_ranks.Statement.{statement}
 use Rattle.tables.proofs.entry.put_ranks.Tie as tie
 
 abbrev Inv-loop : tie.InvT-loop
-Inv-loop v s sets counts out₀ at j₀ out j = (j ≤ max-kids) × ChildRanks sets counts v s j out₀ at out
+Inv-loop v s feasible tally out₀ at j₀ out j = (j ≤ max-kids) × ChildRanks feasible tally v s j out₀ at out
 
 abbrev μ-loop : tie.MeasureT-loop
-μ-loop v s sets counts out₀ at j₀ out j = max-kids - j
+μ-loop v s feasible tally out₀ at j₀ out j = max-kids - j
 
 loop-holds : tie.Need-loop-holds Inv-loop μ-loop
 loop-holds c = (omega arith, no-ranks _ _ _ _ _ _)
 
-child-rank-requires : tie.Need-child-rank-requires Inv-loop μ-loop
-child-rank-requires c κs = (c .before .before .before .before .before .pre .0, λ l. c .before .before .before .before .before .pre .1 _ l)
+feasible-rank-requires : tie.Need-feasible-rank-requires Inv-loop μ-loop
+feasible-rank-requires c κs = (c .before .before .before .before .before .pre .0, λ l. c .before .before .before .before .before .pre .1 _ l)
 
 add-out : tie.Need-add-out Inv-loop μ-loop
 add-out c = search needs
@@ -33,7 +33,7 @@ loop-less : tie.Need-loop-less Inv-loop μ-loop
 loop-less c = search needs
 
 loop-again : tie.Need-loop-again Inv-loop μ-loop
-loop-again c = (omega arith, more-ranks (c .before .before .loop .inv .1) (omega arith) (c .child-rank .ensures))
+loop-again c = (omega arith, more-ranks (c .before .before .loop .inv .1) (omega arith) (c .feasible-rank .ensures))
 
 same-length : tie.Need-same-length Inv-loop μ-loop
 same-length c = c .before .loop .inv .1 .long
@@ -48,7 +48,7 @@ put-ranks-spec =
     Inv-loop
     μ-loop
     loop-holds
-    child-rank-requires
+    feasible-rank-requires
     add-out
     slice-write-out
     add-j

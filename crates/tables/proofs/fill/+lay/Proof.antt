@@ -1,11 +1,11 @@
--- `lay` meets its contract, with the slots left as the number that falls at each call of itself.
+-- `lay` meets its contract, with the children left as the number that falls at each call of itself. Assumes nothing.
 use Prim.Native.Nat.{ℕ, suc, _<_, _-_}
 use native.Mathlib.Omega.{arith}
 use Rattle.ranks.specs.Entries.{choices}
 use Rattle.tables.specs.Shape.{kinds-from}
 use Rattle.tables.specs.Fill.{entry-size, Choices}
 use Rattle.tables.proofs.FillRuns.{Blocks}
-use Rattle.tables.proofs.FillChoices.{leaf-asks, leaf-laid, turn-placed, turn-begun, turn-asks, turn-next, turn-done}
+use Rattle.tables.proofs.FillChoices.{slot-counted, leaf-asks, leaf-laid, lay-begun, lay-placed, lay-asks, lay-next, lay-done}
 use borrow.Fn.Kinds.{In}
 use borrow.Fn.PlainCycle.{Measures, is, falls, and}
 use Rattle.tables.proofs.fill.lay.Reads as lay
@@ -13,12 +13,12 @@ use Rattle.tables.proofs.fill.lay.Kinds as lay-kinds
 use Rattle.tables.proofs.fill.+lay.Lts-lay as lay-lts
 use Rattle.tables.proofs.fill.members_on.Reads as members-on-reads
 use Rattle.tables.proofs.entry.put_entry.Reads as put-entry-reads
-use Rattle.tables.proofs.fill.tie_member.Reads as tie-member-reads
+use Rattle.tables.proofs.fill.tie_plausible.Reads as tie-plausible-reads
 use Rattle.tables.proofs.fill.+lay.{statement}
 use Rattle.tables.proofs.fill.+lay.Tie.{close}
 
 abbrev μ-lay : Measures 6 lay-kinds.ps ℕ
-μ-lay κs a = suc (a .1 .0 .arity) - a .1 .1 .0
+μ-lay κs a = a .1 .1 .0
 
 abbrev lay-at : ℕ → In 6 lay-kinds.ps
 lay-at t = and 6 lay-kinds.ps (is 6 lay-kinds.ps μ-lay t) lay.Pre
@@ -26,59 +26,78 @@ lay-at t = and 6 lay-kinds.ps (is 6 lay-kinds.ps μ-lay t) lay.Pre
 abbrev lay-below : ℕ → In 6 lay-kinds.ps
 lay-below t = and 6 lay-kinds.ps (falls 6 lay-kinds.ps _<_ μ-lay t) lay.Pre
 
+-- what the callees ask and give; the recursive call only where fewer children are left
+abbrev claims : ℕ → lay-lts.Claims
+claims t = (put-entry-reads.Asked, put-entry-reads.Learnt, members-on-reads.Asked, members-on-reads.Learnt, tie-plausible-reads.Asked, tie-plausible-reads.Learnt, lay-below t, lay.Post)
+
 abbrev lay-Inv-loop : lay-lts.InvT-loop
-lay-Inv-loop table v slot s sets counts ranked sizes out₀ at n to₀ r₀ out to r =
-    Blocks (entry-size table) (choices counts (kinds-from v (suc slot))) n (Choices table v slot sets counts ranked sizes (kinds-from v slot) s) out₀ at out to r
+lay-Inv-loop table v left s plausible counts feasible tally out₀ at last slot n to₀ r₀ out to r =
+    Blocks (entry-size table) (choices counts (kinds-from v (suc slot))) n (Choices table v slot plausible counts feasible tally (kinds-from v slot) s) out₀ at out to r
 
 abbrev lay-μ-loop : lay-lts.MeasureT-loop
-lay-μ-loop table v slot s sets counts ranked sizes out₀ at n to₀ r₀ out to r = n - r
+lay-μ-loop table v left s plausible counts feasible tally out₀ at last slot n to₀ r₀ out to r = n - r
 
 module _ (t : ℕ) where
-  put-entry-requires : lay-lts.Need-put-entry-requires (put-entry-reads.Asked, put-entry-reads.Learnt, members-on-reads.Asked, members-on-reads.Learnt, tie-member-reads.Asked, tie-member-reads.Learnt, lay-below t, lay.Post) (lay-at t) lay.Post lay-Inv-loop lay-μ-loop
-  put-entry-requires c κs = leaf-asks (c .before .before .before .before .before .before .before .before .pre .1) (c .before .if1 .taken)
+  put-entry-requires : lay-lts.Need-put-entry-requires (claims t) (lay-at t) lay.Post lay-Inv-loop lay-μ-loop
+  put-entry-requires c κs = leaf-asks (c .before .before .before .before .before .before .before .pre .1 .1) (omega arith)
 
-  same-length : lay-lts.Need-same-length (put-entry-reads.Asked, put-entry-reads.Learnt, members-on-reads.Asked, members-on-reads.Learnt, tie-member-reads.Asked, tie-member-reads.Learnt, lay-below t, lay.Post) (lay-at t) lay.Post lay-Inv-loop lay-μ-loop
+  same-length : lay-lts.Need-same-length (claims t) (lay-at t) lay.Post lay-Inv-loop lay-μ-loop
   same-length c = c .before .before .put-entry .ensures .long
 
-  returns : lay-lts.Need-returns (put-entry-reads.Asked, put-entry-reads.Learnt, members-on-reads.Asked, members-on-reads.Learnt, tie-member-reads.Asked, tie-member-reads.Learnt, lay-below t, lay.Post) (lay-at t) lay.Post lay-Inv-loop lay-μ-loop
-  returns c = leaf-laid (c .before .before .before .before .before .before .before .before .before .before .before .pre .1) (c .before .before .before .before .if1 .taken) (c .before .before .put-entry .ensures)
+  returns : lay-lts.Need-returns (claims t) (lay-at t) lay.Post lay-Inv-loop lay-μ-loop
+  returns c = leaf-laid (c .before .before .before .before .before .before .before .before .before .before .pre .1 .1) (omega arith) (c .before .before .put-entry .ensures)
 
-  members-on-requires : lay-lts.Need-members-on-requires (put-entry-reads.Asked, put-entry-reads.Learnt, members-on-reads.Asked, members-on-reads.Learnt, tie-member-reads.Asked, tie-member-reads.Learnt, lay-below t, lay.Post) (lay-at t) lay.Post lay-Inv-loop lay-μ-loop
+  add-slot : lay-lts.Need-add-slot (claims t) (lay-at t) lay.Post lay-Inv-loop lay-μ-loop
+  add-slot c = let q = c .before .before .before .before .before .before .pre .1 in omega (arith, q .0, q .1 .standing .sized .arity)
+
+  sub-slot : lay-lts.Need-sub-slot (claims t) (lay-at t) lay.Post lay-Inv-loop lay-μ-loop
+  sub-slot c = omega (arith, c .before .before .before .before .before .before .pre .1 .0)
+
+  members-on-requires : lay-lts.Need-members-on-requires (claims t) (lay-at t) lay.Post lay-Inv-loop lay-μ-loop
   members-on-requires c κs =
-      let h = c .before .before .before .before .before .before .before .pre .1 in
-      (h .standing .sized .arity, c .if1 .left, h .choose _ (c .if1 .left) .here)
+      let h = c .before .before .before .before .before .before .pre .1 .1 in
+      let l = c .before .before .before .before .before .before .pre .1 .0 in
+      slot-counted (h .standing .sized) (h .choose) (omega arith)
 
-  loop-holds : lay-lts.Need-loop-holds (put-entry-reads.Asked, put-entry-reads.Learnt, members-on-reads.Asked, members-on-reads.Learnt, tie-member-reads.Asked, tie-member-reads.Learnt, lay-below t, lay.Post) (lay-at t) lay.Post lay-Inv-loop lay-μ-loop
-  loop-holds c = turn-begun (c .before .before .before .before .before .before .before .before .pre .1) (c .before .if1 .left) (c .members-on .ensures)
+  loop-holds : lay-lts.Need-loop-holds (claims t) (lay-at t) lay.Post lay-Inv-loop lay-μ-loop
+  loop-holds c =
+      let q = c .before .before .before .before .before .before .before .pre .1 in
+      lay-begun (q .1) (q .0) (c .before .if1 .left) (omega arith) (c .members-on .ensures)
 
-  tie-member-requires : lay-lts.Need-tie-member-requires (put-entry-reads.Asked, put-entry-reads.Learnt, members-on-reads.Asked, members-on-reads.Learnt, tie-member-reads.Asked, tie-member-reads.Learnt, lay-below t, lay.Post) (lay-at t) lay.Post lay-Inv-loop lay-μ-loop
-  tie-member-requires c κs =
-      let h = c .before .before .before .before .before .before .before .before .before .before .pre .1 in
-      let l = c .before .before .before .if1 .left in
-      (h .standing .sized, h .standing .ready, l, turn-placed h l (c .before .before .members-on .ensures) (c .loop-test .taken))
+  tie-plausible-requires : lay-lts.Need-tie-plausible-requires (claims t) (lay-at t) lay.Post lay-Inv-loop lay-μ-loop
+  tie-plausible-requires c κs =
+      let q = c .before .before .before .before .before .before .before .before .before .pre .1 in
+      let l = q .0 in
+      (q .1 .standing .sized, q .1 .standing .ready, omega arith, lay-placed (q .1) l (c .before .before .before .if1 .left) (omega arith) (c .before .before .members-on .ensures) (omega arith))
 
-  add-lay : lay-lts.Need-add-lay (put-entry-reads.Asked, put-entry-reads.Learnt, members-on-reads.Asked, members-on-reads.Learnt, tie-member-reads.Asked, tie-member-reads.Learnt, lay-below t, lay.Post) (lay-at t) lay.Post lay-Inv-loop lay-μ-loop
-  add-lay c = omega arith
+  sub-lay : lay-lts.Need-sub-lay (claims t) (lay-at t) lay.Post lay-Inv-loop lay-μ-loop
+  sub-lay c = omega arith
 
-  lay-requires : lay-lts.Need-lay-requires (put-entry-reads.Asked, put-entry-reads.Learnt, members-on-reads.Asked, members-on-reads.Learnt, tie-member-reads.Asked, tie-member-reads.Learnt, lay-below t, lay.Post) (lay-at t) lay.Post lay-Inv-loop lay-μ-loop
+  lay-requires : lay-lts.Need-lay-requires (claims t) (lay-at t) lay.Post lay-Inv-loop lay-μ-loop
   lay-requires c κs =
-      let o = c .before .before .before .before .before .before .before .before .before .before .before .before .before .pre in
-      (omega (arith, o .0), turn-asks (o .1) (c .before .before .before .before .before .before .if1 .left) (c .before .before .before .before .before .members-on .ensures) (c .before .before .before .before .loop .inv) (c .before .before .before .loop-test .taken) (c .before .before .tie-member .ensures))
+      let p = c .before .before .before .before .before .before .before .before .before .before .before .before .pre in
+      let q = p .1 in
+      let l = q .0 in
+      (omega (arith, p .0), (omega arith, lay-asks (q .1) l (c .before .before .before .before .before .before .if1 .left) (omega arith) (c .before .before .before .before .before .members-on .ensures) (c .before .before .before .before .loop .inv) (omega arith) (c .before .before .tie-plausible .ensures)))
 
-  add-r : lay-lts.Need-add-r (put-entry-reads.Asked, put-entry-reads.Learnt, members-on-reads.Asked, members-on-reads.Learnt, tie-member-reads.Asked, tie-member-reads.Learnt, lay-below t, lay.Post) (lay-at t) lay.Post lay-Inv-loop lay-μ-loop
+  add-r : lay-lts.Need-add-r (claims t) (lay-at t) lay.Post lay-Inv-loop lay-μ-loop
   add-r c = omega arith
 
-  loop-less : lay-lts.Need-loop-less (put-entry-reads.Asked, put-entry-reads.Learnt, members-on-reads.Asked, members-on-reads.Learnt, tie-member-reads.Asked, tie-member-reads.Learnt, lay-below t, lay.Post) (lay-at t) lay.Post lay-Inv-loop lay-μ-loop
+  loop-less : lay-lts.Need-loop-less (claims t) (lay-at t) lay.Post lay-Inv-loop lay-μ-loop
   loop-less c = omega arith
 
-  loop-again : lay-lts.Need-loop-again (put-entry-reads.Asked, put-entry-reads.Learnt, members-on-reads.Asked, members-on-reads.Learnt, tie-member-reads.Asked, tie-member-reads.Learnt, lay-below t, lay.Post) (lay-at t) lay.Post lay-Inv-loop lay-μ-loop
-  loop-again c = turn-next (c .before .before .before .before .before .before .before .before .before .before .before .before .before .before .before .before .pre .1) (c .before .before .before .before .before .before .before .before .before .if1 .left) (c .before .before .before .before .before .before .before .before .members-on .ensures) (c .before .before .before .before .before .before .before .loop .inv) (c .before .before .before .before .before .before .loop-test .taken) (c .before .before .before .before .before .tie-member .ensures) (c .before .before .lay .ensures)
+  loop-again : lay-lts.Need-loop-again (claims t) (lay-at t) lay.Post lay-Inv-loop lay-μ-loop
+  loop-again c =
+      let q = c .before .before .before .before .before .before .before .before .before .before .before .before .before .before .before .pre .1 in
+      lay-next (q .1) (q .0) (c .before .before .before .before .before .before .before .before .before .if1 .left) (omega arith) (c .before .before .before .before .before .before .before .before .members-on .ensures) (c .before .before .before .before .before .before .before .loop .inv) (omega arith) (c .before .before .before .before .before .tie-plausible .ensures) (c .before .before .lay .ensures)
 
-  same-length-2 : lay-lts.Need-same-length-2 (put-entry-reads.Asked, put-entry-reads.Learnt, members-on-reads.Asked, members-on-reads.Learnt, tie-member-reads.Asked, tie-member-reads.Learnt, lay-below t, lay.Post) (lay-at t) lay.Post lay-Inv-loop lay-μ-loop
+  same-length-2 : lay-lts.Need-same-length-2 (claims t) (lay-at t) lay.Post lay-Inv-loop lay-μ-loop
   same-length-2 c = c .before .loop .inv .laid .long
 
-  returns-2 : lay-lts.Need-returns-2 (put-entry-reads.Asked, put-entry-reads.Learnt, members-on-reads.Asked, members-on-reads.Learnt, tie-member-reads.Asked, tie-member-reads.Learnt, lay-below t, lay.Post) (lay-at t) lay.Post lay-Inv-loop lay-μ-loop
-  returns-2 c = turn-done (c .before .before .before .before .before .before .before .before .before .before .pre .1) (c .before .before .before .if1 .left) (c .before .before .members-on .ensures) (c .before .loop .inv) (c .loop-test .left)
+  returns-2 : lay-lts.Need-returns-2 (claims t) (lay-at t) lay.Post lay-Inv-loop lay-μ-loop
+  returns-2 c =
+      let q = c .before .before .before .before .before .before .before .before .before .pre .1 in
+      lay-done (q .1) (q .0) (c .before .before .before .if1 .left) (omega arith) (c .before .before .members-on .ensures) (c .before .loop .inv) (omega arith)
 
 pub +lay-spec : {M : Type 1} → statement M
-+lay-spec = close μ-lay λ t. lay-lts.spec (put-entry-reads.Asked, put-entry-reads.Learnt, members-on-reads.Asked, members-on-reads.Learnt, tie-member-reads.Asked, tie-member-reads.Learnt, lay-below t, lay.Post) (lay-at t) lay.Post lay-Inv-loop lay-μ-loop (put-entry-requires t) (same-length t) (returns t) (members-on-requires t) (loop-holds t) (tie-member-requires t) (add-lay t) (lay-requires t) (add-r t) (loop-less t) (loop-again t) (same-length-2 t) (returns-2 t)
++lay-spec = close μ-lay λ t. lay-lts.spec (claims t) (lay-at t) lay.Post lay-Inv-loop lay-μ-loop (put-entry-requires t) (same-length t) (returns t) (add-slot t) (sub-slot t) (members-on-requires t) (loop-holds t) (tie-plausible-requires t) (sub-lay t) (lay-requires t) (add-r t) (loop-less t) (loop-again t) (same-length-2 t) (returns-2 t)

@@ -21,7 +21,7 @@ base-requires c κs = (refl, opened-readable (c .before .before .before .before 
 lay-down-requires : tie.Need-lay-down-requires
 lay-down-requires c κs =
     let o = c .before .before .before .before .before .before .before .before .before .before .before .before .pre in
-    down-run-asks (o .0) (o .1) (c .before .before .before .before .shape-of .ensures) (o .2) (o .3) (c .before .before .base .ensures) (o .4)
+    down-run-asks (o .0) (o .1) (c .before .before .before .before .shape-of .ensures) (o .2) (c .before .before .base .ensures) (o .3)
 
 same-length : tie.Need-same-length
 same-length c = search needs
@@ -29,7 +29,7 @@ same-length c = search needs
 returns : tie.Need-returns
 returns c =
     let o = c .before .before .before .before .before .before .before .before .before .before .before .before .before .before .before .pre in
-    down-run-laid (o .0) (o .1) (c .before .before .before .before .before .before .before .shape-of .ensures) (o .2) (o .3) (c .before .before .before .before .before .base .ensures) (c .before .before .lay-down .ensures)
+    down-run-laid (o .0) (o .1) (c .before .before .before .before .before .before .before .shape-of .ensures) (o .2) (c .before .before .before .before .before .base .ensures) (c .before .before .lay-down .ensures)
 
 pub down-run-spec : {M : Type 1} → statement M
 down-run-spec =

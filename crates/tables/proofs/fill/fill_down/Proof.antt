@@ -8,10 +8,10 @@ use Rattle.tables.proofs.fill.fill_down.Statement.{statement}
 use Rattle.tables.proofs.fill.fill_down.Tie as tie
 
 abbrev Inv-loop : tie.InvT-loop
-Inv-loop book places sets counts feasible sizes down₀ n at₀ p₀ down at p = DownFilling book sets counts feasible sizes n down₀ down at p
+Inv-loop book places plausible counts feasible tally down₀ n at₀ p₀ down at p = DownFilling book plausible counts feasible tally n down₀ down at p
 
 abbrev μ-loop : tie.MeasureT-loop
-μ-loop book places sets counts feasible sizes down₀ n at₀ p₀ down at p = n - p
+μ-loop book places plausible counts feasible tally down₀ n at₀ p₀ down at p = n - p
 
 productions-requires : tie.Need-productions-requires Inv-loop μ-loop
 productions-requires c κs = search needs
@@ -23,14 +23,14 @@ loop-holds : tie.Need-loop-holds Inv-loop μ-loop
 loop-holds c =
     let o = c .before .before .before .before .before .before .before in
     let a = o .args in
-    down-begun (o .pre .0) (a .sets .now) (a .counts .now) (a .feasible .now) (a .sizes .now) refl (c .productions .ensures) (o .pre .3)
+    down-begun (o .pre .0) (a .plausible .now) (a .counts .now) (a .feasible .now) (a .tally .now) refl (c .productions .ensures) (o .pre .2)
 
 down-run-requires : tie.Need-down-run-requires Inv-loop μ-loop
 down-run-requires c κs =
     let o = c .before .before .before .before .before .before .before .before .before .before .pre in
     let h = c .before .before .loop .inv in
     let l = c .before .loop-test .taken in
-    (o .0, down-below h l, o .1, o .2, down-room h l)
+    (o .0, down-below h l, o .1, down-room h l)
 
 add-p : tie.Need-add-p Inv-loop μ-loop
 add-p c = omega arith

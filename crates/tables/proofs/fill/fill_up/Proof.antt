@@ -8,10 +8,10 @@ use Rattle.tables.proofs.fill.fill_up.Statement.{statement}
 use Rattle.tables.proofs.fill.fill_up.Tie as tie
 
 abbrev Inv-loop : tie.InvT-loop
-Inv-loop book places sets counts up₀ n at₀ p₀ up at p = UpFilling book sets counts n up₀ up at p
+Inv-loop book places plausible counts feasible tally up₀ n at₀ p₀ up at p = UpFilling book plausible counts n up₀ up at p
 
 abbrev μ-loop : tie.MeasureT-loop
-μ-loop book places sets counts up₀ n at₀ p₀ up at p = n - p
+μ-loop book places plausible counts feasible tally up₀ n at₀ p₀ up at p = n - p
 
 productions-requires : tie.Need-productions-requires Inv-loop μ-loop
 productions-requires c κs = search needs
@@ -21,12 +21,12 @@ cast-n c = search needs
 
 loop-holds : tie.Need-loop-holds Inv-loop μ-loop
 loop-holds c =
-    let o = c .before .before .before .before .before in
-    up-begun (o .pre .0) (o .args .sets .now) (o .args .counts .now) refl (c .productions .ensures) (o .pre .2)
+    let o = c .before .before .before .before .before .before .before in
+    up-begun (o .pre .0) (o .args .plausible .now) (o .args .counts .now) refl (c .productions .ensures) (o .pre .2)
 
 up-run-requires : tie.Need-up-run-requires Inv-loop μ-loop
 up-run-requires c κs =
-    let o = c .before .before .before .before .before .before .before .before .pre in
+    let o = c .before .before .before .before .before .before .before .before .before .before .pre in
     let h = c .before .before .loop .inv in
     let l = c .before .loop-test .taken in
     (o .0, up-below h l, o .1, up-room h l)

@@ -10,11 +10,11 @@ use Rattle.tables.proofs.fill.lay_down.Statement.{statement}
 use Rattle.tables.proofs.fill.lay_down.Tie as tie
 
 abbrev Inv-loop : tie.InvT-loop
-Inv-loop v s sets counts feasible sizes out₀ at n to₀ u₀ out to u =
-    Blocks entry-bytes (choices counts (kinds-from v 1)) n (AllChoices v sets counts feasible sizes (kinds-from v 1) s) out₀ at out to u
+Inv-loop v s plausible counts feasible tally out₀ at n to₀ u₀ out to u =
+    Blocks entry-bytes (choices counts (kinds-from v 1)) n (AllChoices v plausible counts feasible tally (kinds-from v 1) s) out₀ at out to u
 
 abbrev μ-loop : tie.MeasureT-loop
-μ-loop v s sets counts feasible sizes out₀ at n to₀ u₀ out to u = n - u
+μ-loop v s plausible counts feasible tally out₀ at n to₀ u₀ out to u = n - u
 
 members-on-requires : tie.Need-members-on-requires Inv-loop μ-loop
 members-on-requires c κs =
@@ -24,13 +24,13 @@ members-on-requires c κs =
 loop-holds : tie.Need-loop-holds Inv-loop μ-loop
 loop-holds c = feed-begun (c .before .before .before .before .before .before .pre) (c .members-on .ensures)
 
-tie-member-requires : tie.Need-tie-member-requires Inv-loop μ-loop
-tie-member-requires c κs =
+tie-feasible-requires : tie.Need-tie-feasible-requires Inv-loop μ-loop
+tie-feasible-requires c κs =
     let h = c .before .before .before .before .before .before .before .before .pre in
-    (h .standing .sized, h .standing .ready, omega arith, feed-placed h (c .before .before .members-on .ensures) (c .loop-test .taken))
+    (h .standing .sized, h .standing .ready, feed-placed h (c .before .before .members-on .ensures) (c .loop-test .taken))
 
 lay-requires : tie.Need-lay-requires Inv-loop μ-loop
-lay-requires c κs = feed-asks (c .before .before .before .before .before .before .before .before .before .before .before .pre) (c .before .before .before .before .before .members-on .ensures) (c .before .before .before .before .loop .inv) (c .before .before .before .loop-test .taken) (c .before .before .tie-member .ensures)
+lay-requires c κs = feed-asks (c .before .before .before .before .before .before .before .before .before .before .before .pre) (c .before .before .before .before .before .members-on .ensures) (c .before .before .before .before .loop .inv) (c .before .before .before .loop-test .taken) (c .before .before .tie-feasible .ensures)
 
 add-u : tie.Need-add-u Inv-loop μ-loop
 add-u c = omega arith
@@ -39,7 +39,7 @@ loop-less : tie.Need-loop-less Inv-loop μ-loop
 loop-less c = omega arith
 
 loop-again : tie.Need-loop-again Inv-loop μ-loop
-loop-again c = feed-next (c .before .before .before .before .before .before .before .before .before .before .before .before .before .before .pre) (c .before .before .before .before .before .before .before .before .members-on .ensures) (c .before .before .before .before .before .before .before .loop .inv) (c .before .before .before .before .before .before .loop-test .taken) (c .before .before .before .before .before .tie-member .ensures) (c .before .before .lay .ensures)
+loop-again c = feed-next (c .before .before .before .before .before .before .before .before .before .before .before .before .before .before .pre) (c .before .before .before .before .before .before .before .before .members-on .ensures) (c .before .before .before .before .before .before .before .loop .inv) (c .before .before .before .before .before .before .loop-test .taken) (c .before .before .before .before .before .tie-feasible .ensures) (c .before .before .lay .ensures)
 
 same-length : tie.Need-same-length Inv-loop μ-loop
 same-length c = c .before .loop .inv .laid .long
@@ -55,7 +55,7 @@ lay-down-spec =
     μ-loop
     members-on-requires
     loop-holds
-    tie-member-requires
+    tie-feasible-requires
     lay-requires
     add-u
     loop-less

@@ -1,7 +1,5 @@
 -- The number of members of a slot's kind. Assumes nothing.
-use native.Mathlib.Omega.{arith}
 use borrow.Author.Needs.{needs}
-use lib.ListN.{getD}
 use Rattle.tables.proofs.fill.members_on.Statement.{statement}
 use Rattle.tables.proofs.fill.members_on.Tie as tie
 
@@ -14,9 +12,6 @@ cast-result c = search needs
 shared-slice-read-result : tie.Need-shared-slice-read-result
 shared-slice-read-result c = search needs
 
-cast-result-2 : tie.Need-cast-result-2
-cast-result-2 c = omega (arith, c .shared-slice-known .given (getD (c .before .before .args .t1 .kinds) (c .before .before .args .slot) 0))
-
 returns : tie.Need-returns
 returns c = search needs
 
@@ -27,5 +22,4 @@ members-on-spec =
     element-copy-out-result
     cast-result
     shared-slice-read-result
-    cast-result-2
     returns)

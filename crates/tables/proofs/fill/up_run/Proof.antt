@@ -16,11 +16,11 @@ shape-of-requires : tie.Need-shape-of-requires
 shape-of-requires c κs = search needs
 
 base-requires : tie.Need-base-requires
-base-requires c κs = (refl, opened-readable (c .before .before .before .before .before .before .before .pre .0) _ (c .before .before .before .before .before .before .before .pre .1))
+base-requires c κs = (refl, opened-readable (c .before .before .before .before .before .before .before .before .before .pre .0) _ (c .before .before .before .before .before .before .before .before .before .pre .1))
 
 lay-requires : tie.Need-lay-requires
 lay-requires c κs =
-    let o = c .before .before .before .before .before .before .before .before .before .before .pre in
+    let o = c .before .before .before .before .before .before .before .before .before .before .before .before .pre in
     up-run-asks (o .0) (o .1) (c .before .before .before .before .shape-of .ensures) (o .2) (c .before .before .base .ensures) (o .3)
 
 same-length : tie.Need-same-length
@@ -28,7 +28,7 @@ same-length c = search needs
 
 returns : tie.Need-returns
 returns c =
-    let o = c .before .before .before .before .before .before .before .before .before .before .before .before .before .pre in
+    let o = c .before .before .before .before .before .before .before .before .before .before .before .before .before .before .before .pre in
     up-run-laid (o .0) (o .1) (c .before .before .before .before .before .before .before .shape-of .ensures) (o .2) (c .before .before .before .before .before .base .ensures) (c .before .before .lay .ensures)
 
 pub up-run-spec : {M : Type 1} → statement M

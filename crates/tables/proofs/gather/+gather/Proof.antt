@@ -7,7 +7,7 @@ use borrow.Fn.Kinds.{In}
 use borrow.Fn.PlainCycle.{Measures, is, falls, and}
 use Rattle.tables.specs.Visit.{size-of}
 use Rattle.tables.proofs.Rounds.{round-less}
-use Rattle.tables.proofs.Gathering.{one-less, reply-none, reply-known, Looping, loop-begun, loop-request, loop-next, loop-end, loop-long, loop-long-c, loop-long-seen}
+use Rattle.tables.proofs.Gathering.{one-less, enter-asks, reply-none, reply-known, Looping, loop-begun, loop-request, loop-next, loop-end, loop-long, loop-long-c, loop-long-seen}
 use Rattle.tables.proofs.gather.gather.Reads as gather
 use Rattle.tables.proofs.gather.gather.Kinds as gather-kinds
 use Rattle.tables.proofs.gather.+gather.Lts-gather as gather-lts
@@ -42,10 +42,7 @@ gather-μ-loop v j s lists seen₀ sets₀ counts₀ k n turn₀ i₀ seen sets 
 
 module _ (t : ℕ) where
   enter-requires : gather-lts.Need-enter-requires (claims t) (gather-at t) gather.Post gather-Inv-loop gather-μ-loop
-  enter-requires c κs =
-      let e : c .before .before .before .before .before .before .before .args .j ≡ 0 = omega (arith, c .before .before .if1 .taken) in
-      let q = rw e at (c .before .before .before .before .before .before .before .pre .1) in
-      (q .ready, q .standing, q .order)
+  enter-requires c κs = enter-asks (c .before .before .before .before .before .before .before .pre .1)
 
   same-length : gather-lts.Need-same-length (claims t) (gather-at t) gather.Post gather-Inv-loop gather-μ-loop
   same-length c = search needs
@@ -55,8 +52,9 @@ module _ (t : ℕ) where
 
   returns : gather-lts.Need-returns (claims t) (gather-at t) gather.Post gather-Inv-loop gather-μ-loop
   returns c =
-      let e = c .before .before .before .before .before .before .before .if1 .taken in
-      rw e (reply-none _ _ (rw e at (c .before .before .before .before .before .before .before .before .before .before .before .before .pre .1)) (c .before .before .before .before .enter .ensures))
+      let o = c .before .before .before .before .before .before .before .before .before .before .before .before in
+      let e : o .args .j ≡ 0 = omega (arith, c .before .before .before .before .before .before .before .if1 .taken) in
+      rw e (reply-none _ _ (rw e at (o .pre .1)) (c .before .before .before .before .enter .ensures))
 
   known-requires : gather-lts.Need-known-requires (claims t) (gather-at t) gather.Post gather-Inv-loop gather-μ-loop
   known-requires c κs =

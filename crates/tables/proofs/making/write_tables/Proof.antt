@@ -1,4 +1,5 @@
 -- Both tables are counted, held against their slices, and written.
+use native.Mathlib.Omega.{arith}
 use Rattle.tables.proofs.EntryCounts.{fine-small}
 use Rattle.tables.proofs.BuildSteps.{up-fits, down-fits, tabled-up, tabled-down, tabled}
 use Rattle.tables.proofs.making.write_tables.Statement.{statement}
@@ -8,7 +9,7 @@ total-up-requires : tie.Need-total-up-requires
 total-up-requires c κs = let o = c .before .before .before .before .before .before .before .pre in (o .0, fine-small (o .1 .plausible .fine))
 
 returns : tie.Need-returns
-returns c = tabled-up _ _ _ _ _ _ _ _ _ (c .before .total-up .ensures .0) (c .if1 .taken)
+returns c = tabled-up _ _ _ _ _ _ _ _ _ (c .before .total-up .ensures .0) (omega (arith, c .if1 .taken))
 
 total-down-requires : tie.Need-total-down-requires
 total-down-requires c κs = let o = c .before .before .before .before .before .before .before .before .before .pre in (o .0, fine-small (o .1 .plausible .fine), fine-small (o .1 .feasible .fine))
@@ -17,13 +18,13 @@ returns-2 : tie.Need-returns-2
 returns-2 c = tabled-down _ _ _ _ _ _ _ _ _ (c .before .before .before .total-up .ensures .0) (c .before .before .if1 .left) (c .before .total-down .ensures .0) (c .if2 .taken)
 
 fill-up-requires : tie.Need-fill-up-requires
-fill-up-requires c κs = let o = c .before .before .before .before .before .before .before .before .before .before .before .before .pre in (o .0, o .1 .plausible, up-fits (c .before .before .before .before .total-up .ensures .0) (c .before .before .before .if1 .left))
+fill-up-requires c κs = let o = c .before .before .before .before .before .before .before .before .before .before .before .before .pre in (o .0, o .1, up-fits (c .before .before .before .before .total-up .ensures .0) (c .before .before .before .if1 .left))
 
 fill-down-requires : tie.Need-fill-down-requires
-fill-down-requires c κs = let o = c .before .before .before .before .before .before .before .before .before .before .before .before .before .before .before .before .pre in (o .0, o .1 .plausible, o .1 .feasible, down-fits (c .before .before .before .before .before .before .total-down .ensures .0) (c .before .before .before .before .before .if2 .left))
+fill-down-requires c κs = let o = c .before .before .before .before .before .before .before .before .before .before .before .before .before .before .before .before .pre in (o .0, o .1, down-fits (c .before .before .before .before .before .before .total-down .ensures .0) (c .before .before .before .before .before .if2 .left))
 
 same-length : tie.Need-same-length
-same-length c = c .before .before .before .before .before .before .fill-up .kept .1 .1 .1 .1 .0
+same-length c = c .before .before .before .before .before .before .fill-up .kept .1 .1 .1 .1 .1 .1 .0
 
 same-length-2 : tie.Need-same-length-2
 same-length-2 c = c .before .before .fill-down .kept .1 .1 .1 .1 .1 .1 .0

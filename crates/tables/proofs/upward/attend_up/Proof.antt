@@ -29,7 +29,7 @@ same-length c = search needs
 returns : tie.Need-returns
 returns c =
     let (a, l, e, long, f, old) = c .before .before .before .before .before .before .before .before .pre in
-    up-spared a _ l (c .before .before .before .before .before .before .before .before .args .marks .now) f old (rw e at (c .before .before .watched-up .ensures)) (c .if1 .taken)
+    up-spared a _ l (c .before .before .before .before .before .before .before .before .args .marks .now) f old (rw e at (c .before .before .watched-up .ensures)) (omega (arith, c .if1 .taken))
 
 mul-marks : tie.Need-mul-marks
 mul-marks c =
