@@ -27,7 +27,7 @@ plug-size (here rest) q q′ ds ds′ = omega arith
 plug-size (inside p h rest) q q′ ds ds′ = let k = plug-size h q q′ ds ds′ in omega arith
 plug-size (after p cs h) q q′ ds ds′ = let k = plug-size h q q′ ds ds′ in omega arith
 
--- the tree in the hole is the subtree at its node; and every subtree of a forest leaves a hole
+-- the tree in the hole is the subtree at its node (for request 4: nothing cites it yet); and every subtree of a forest leaves a hole
 pub plug-sub : (h : Hole) (n q : ℕ) (ds : Bush) → Sub (plug h q ds) n (spot h n) q ds
 plug-sub (here rest) n q ds = inl (refl, refl, refl)
 plug-sub (inside p h rest) n q ds = inr (inl (plug-sub h (suc n) q ds))
@@ -292,18 +292,19 @@ module _ (q q′ : ℕ) (ds ds′ : Bush) where
       (first, roots-around h (suc (n + size cs)))
 
   -- node m′ of f has the production p, and its children are those of node m, cs, moved
-  abbrev pub Kept : ℕ → Bush → ℕ → ℕ → ℕ → ℕ → Bush → Type 0
-  Kept i f n m m′ p cs = (cs′ : Bush) × Sub f n m′ p cs′ × AllMove i (size ds) (size ds′) (roots cs (suc m)) (roots cs′ (suc m′))
+  abbrev pub KidsMove : ℕ → Bush → ℕ → ℕ → ℕ → ℕ → Bush → Type 0
+  KidsMove i f n m m′ p cs = (cs′ : Bush) × Sub f n m′ p cs′ × AllMove i (size ds) (size ds′) (roots cs (suc m)) (roots cs′ (suc m′))
 
   kept-behind : (i : ℕ) (f : Bush) (n n′ m m′ p : ℕ) (cs : Bush) → i + size ds < m → m′ + size ds ≡ m + size ds′ → n′ + size ds ≡ n + size ds′ → Sub f n m p cs
-      → Kept i f n′ m m′ p cs
+      → KidsMove i f n′ m m′ p cs
   kept-behind i f n n′ m m′ p cs h e k s =
       let (m″, s′, e′) = sub-move f n n′ m p cs s in
       let em : m″ ≡ m′ = omega arith in
       (cs, rw em at s′, roots-behind i (size ds) (size ds′) cs (suc m) (suc m′) (omega arith) (omega arith))
 
+  -- THEOREM: every node outside but the hole's own has its production also with the other tree in the hole, and there its children are the same, moved
   pub sub-kept : (h : Hole) (n m m′ p : ℕ) (cs : Bush) → Moves (spot h n) (size ds) (size ds′) m m′ → (m ≡ spot h n → ⊥) → Sub (plug h q ds) n m p cs
-      → Kept (spot h n) (plug h q′ ds′) n m m′ p cs
+      → KidsMove (spot h n) (plug h q′ ds′) n m m′ p cs
   sub-kept (here rest) n m m′ p cs mv other (inl (em, ep, ec)) = absurd (other em)
   sub-kept (here rest) n m m′ p cs mv other (inr (inl s)) =
       let i = sub-in ds (suc n) m p cs s in

@@ -19,7 +19,7 @@ use Rattle.chains.proofs.Says.{Code, says-unique, says-map, alike-says,
 use Rattle.chains.proofs.Alike.{Kept, alike-iff, closure-real}
 use Rattle.chains.proofs.Step.{up-exists, up-alike}
 
--- nothing cites this law, nor `tree-says`, `down-exists` (Step) and `plug-sub` (Holes), yet: request 4 pairs plausible codes with feasible ones by them
+-- (for request 4, as is `tree-says`: nothing cites them yet)
 pub plausible-code : (G : Grammar) (k c : ℕ) → Plausible G k c → Code G k c
 plausible-code G k c (f, h, s) = (s .low, s .first)
 
@@ -88,7 +88,7 @@ module _ (G : Grammar) (L : Lawful G) where
     pub plausible-complete : (k c : ℕ) → Plausible G k c → S k c
     plausible-complete k c (f, h, s) = let (d, m, t) = tree-code f k h in subst (S k) (says-unique t s) m
 
-  -- THEOREM: every well-kinded tree has a code that says its chains at its root
+  -- THEOREM: every well-kinded tree has a code that says its chains at its root (for request 4)
   pub tree-says : (f : Bush) (k : ℕ) → Kinded G f (k ∷ []) → (c : ℕ) × Says (G .settings k) c (λ a b. Chain G f 0 (0, a) (0, b))
   tree-says f k h = let (c, u, s) = tree-code (λ k c. Unit {0}) (λ p d hp s. tt) f k h in (c, s)
 

@@ -90,7 +90,7 @@ module _ (G : Grammar) (L : Lawful G) (p : ℕ) (hp : p < G .prods) where
       → (a b : ℕ) → Alike G (G .left p) c a b ↔ Closure G p (Slotwise (λ a b. ⊥) (Each G (G .kids p) cs)) (0, a) (0, b)
   up-alike c cs u = step-alike (λ a b. ⊥) none-partial cs (λ a b r. absurd r) 0 c u
 
-  -- THEOREM: codes of the left kind and of the children give a code of each child's kind
+  -- THEOREM: codes of the left kind and of the children give a code of each child's kind (for request 4: nothing cites it yet)
   pub down-exists : (c : ℕ) (cs : List ℕ) (j : ℕ) → j < length (G .kids p) → (d : ℕ) × Says (G .settings (getD (G .kids p) j 0)) d (λ a b. Closure G p (Chosen G p c cs) (suc j, a) (suc j, b))
   down-exists c cs j h = step-exists (Alike G (G .left p) c) (alike-decided G (G .left p) c .part) cs (suc j) (omega arith)
 

@@ -11,7 +11,6 @@ use Rattle.chains.specs.Grammar.{Grammar}
 use Rattle.book.specs.Format.{entry, grammar}
 use Rattle.sheet.specs.Reading.{Node, due, Read, begun, further, all-settings}
 use Rattle.sheet.specs.Refusals as sheet
-use Rattle.admission.specs.Refusals.{ShortCounts}
 use Rattle.sheet.specs.Stops.{Fault, unknown, unfit, deep, Stop}
 use Rattle.sheet.proofs.Refusals.{stop-refused}
 use Rattle.ranks.specs.Entries.{choices, choice, up-start, down-start}
@@ -83,13 +82,9 @@ wrong-kind = refuse (3 ∷ []) (omega arith) (omega arith) (record {
 -- and the sheet call refuses them so, whatever it is lent
 call-refused : {l : List ℕ} {number place : ℕ} → sheet.SheetDue book l (refused number place) → CallRefused l number place
 call-refused due T n = (
-  λ c d. refused-alike T n (long c d) due,
+  λ c d. refused-alike T n (λ h. elim h [ inl u ↦ omega arith | inr u ↦ omega arith ]) due,
   λ h. refused-short T n book-free h,
 )
-  where
-    long : 3 ≤ length (T .plausible-counts) → 3 ≤ length (T .feasible-counts) → ShortCounts book (length (T .plausible-counts)) (length (T .feasible-counts)) → ⊥
-    long c d (inl h) = omega arith
-    long c d (inr h) = omega arith
 
 -- THEOREM: every row of the table holds
 pub examples-hold : AllHold table

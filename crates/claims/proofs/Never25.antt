@@ -111,5 +111,5 @@ module _ {b l : List ℕ} {m₀ m : tables.Lent} {entries : List ℕ} {T : Table
   pub never-25 : Never25 b l T n₀
   never-25 = record {
     refused-below = λ n number place ((t, first), e). below-25 (first .0);
-    accepts = λ checked sound nodes-fit groups-fit. accepted-with-own-tables sound nodes-fit groups-fit;
+    accepts = λ checked sound nodes-fit groups-fit. accepted-with-own-tables sound (omega arith) (omega arith);
   }

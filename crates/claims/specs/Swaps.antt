@@ -35,9 +35,9 @@ pub record Swaps : Type 0 where
   pub below-same : AfterCalls (0 ∷ 2 ∷ 3 ∷ []) (0 ∷ 2 ∷ 4 ∷ [])
       (λ n n′. SameAt (0 ∷ 2 ∷ 3 ∷ []) (0 ∷ 2 ∷ 4 ∷ []) 0 n n′ × SameAt (0 ∷ 2 ∷ 3 ∷ []) (0 ∷ 2 ∷ 4 ∷ []) 1 n n′
       × (down-entry-of (n .nodes) 0 ≡ down-entry-of (n′ .nodes) 0))
-  -- node 1's own entry does not: 13 in the one, 12 in the other (a row of the worked examples)
+  -- node 1's own entry does not stay: 13 in the one; 12 in the other, which is a row of the worked examples
   pub own-entry : Claim (grouped (0 ∷ 2 ∷ 3 ∷ []) (3 ∷ 10 ∷ 1 ∷ []) (0 ∷ 0 ∷ 0 ∷ 0 ∷ 0 ∷ 13 ∷ 1 ∷ 0 ∷ 18 ∷ []) (0 ∷ 0 ∷ 0 ∷ 0 ∷ 0 ∷ 0 ∷ 0 ∷ 0 ∷ 0 ∷ 0 ∷ []))
-  -- sheets 0 1 3 and 0 1 4, the root replaced, all that stays being the root
+  -- sheets 0 1 3 and 0 1 4: the root's own subtree is replaced, and of all nodes the root alone stays
   pub whole : Replacement (grammar book) (0 ∷ 1 ∷ 3 ∷ []) (0 ∷ 1 ∷ 4 ∷ [])
   pub at-the-root : whole .pre ≡ []
   pub whole-unchanged : AfterCalls (0 ∷ 1 ∷ 3 ∷ []) (0 ∷ 1 ∷ 4 ∷ []) (λ n n′. (t : numbering.TreeOf (grammar book) (0 ∷ 1 ∷ 3 ∷ [])) → Unchanged whole t n n′)
