@@ -54,11 +54,10 @@ module _ {v : Shape} {c : List ℕ} {x t : ℕ} (h : Multiplying v c x t) where
       (q, rw q (few-choices few 1 (omega arith)))
 
 -- and the feasible groupings of its left kind, of which each has all of them
-pub choose-down : {v : Shape} (c : List ℕ) {d : List ℕ} {x : ℕ} → Countable v d → (x ≡ choices c (kinds-from v 1)) × (x ≤ max-members ^ max-kids)
-    → (getD d (kind-of v 0) 0 * x ≡ getD d (kind-of v 0) 0 * choices c (kinds-from v 1)) × (getD d (kind-of v 0) 0 * x ≤ max-members ^ (1 + max-kids))
-choose-down {v} c {d} {x} h (q, l) =
+pub choose-down : {v : Shape} {d : List ℕ} {x : ℕ} → Countable v d → x ≤ max-members ^ max-kids → getD d (kind-of v 0) 0 * x ≤ max-members ^ (1 + max-kids)
+choose-down {v} {d} {x} h l =
     let w : getD d (kind-of v 0) 0 * x ≤ max-members * max-members ^ max-kids = mul-le-mul (h .few 0 (omega arith)) l in
-    (ap (λ (y : ℕ). getD d (kind-of v 0) 0 * y) q, omega arith)
+    omega arith
 
 -- ── all productions ──
 -- x is the number of entries of the first p of n productions, which are the book's; start counts them
@@ -134,13 +133,13 @@ module _ {b places : List ℕ} (o : Opened b places) {c : List ℕ} (s : Small b
       up-turn = record { all = t .all; within = omega arith; sum = up-sum }
 
     module _ {d : List ℕ} (few : Small b d) (t : Summing b (down-start (grammar b) c d) n x p)
-        {y : ℕ} (e : y ≡ getD d (kind-of v 0) 0 * choices c (kinds-from v 1)) where
+        {m y : ℕ} (g : m ≡ choices c (kinds-from v 1)) (e : y ≡ getD d (kind-of v 0) 0 * m) where
       down-sum : x + y ≡ down-start (grammar b) c d (p + 1)
       unfolding down-start
       down-sum =
-          let m : p < prods b = omega (arith, t .all) in
-          let k : getD d (kind-of v 0) 0 ≡ getD d (grammar b .left p) 0 = ap (λ (k : ℕ). getD d k 0) (opened-left o p m h) in
-          ap₂ _+_ (t .sum) (e ∙ ap₂ _*_ k (opened-choices o p m h c)) ∙ ap (down-start (grammar b) c d) (sym (add-one p))
+          let z : p < prods b = omega (arith, t .all) in
+          let k : getD d (kind-of v 0) 0 ≡ getD d (grammar b .left p) 0 = ap (λ (k : ℕ). getD d k 0) (opened-left o p z h) in
+          ap₂ _+_ (t .sum) (e ∙ ap₂ _*_ k (g ∙ opened-choices o p z h c)) ∙ ap (down-start (grammar b) c d) (sym (add-one p))
 
       pub down-fits : x + y ≤ max-prods * max-members ^ (1 + max-kids)
       down-fits = rw down-sum (down-few few (p + 1) (omega (arith, t .all)))

@@ -62,6 +62,9 @@ module _ {b : List ℕ} {at : ℕ} {ks ws : List ℕ} {t : ℕ} (h : Shaping b a
 pub all-open : (v : Shape) → first-of v (v .arity) ≡ 1
 all-open v = omega arith
 
+pub first-slot : (v : Shape) (left : ℕ) → v .arity + 1 - left ≡ first-of v left
+first-slot v left = omega arith
+
 module _ (v : Shape) (t : ℕ) where
   pub kinds-step : t ≤ v .arity → kinds-from v t ≡ kind-of v t ∷ kinds-from v (suc t)
   unfolding kinds-from labelling.labels-by

@@ -10,8 +10,7 @@ use super::downward::downward;
 use super::fill::fill_down;
 use super::fill::fill_up;
 use super::sets::MAX_MEMBERS;
-use super::totals::total_down;
-use super::totals::total_up;
+use super::totals::totals;
 use super::upward::upward;
 
 // Bytes of a down entry.
@@ -52,14 +51,15 @@ fn write_tables(
     ensures { λ r. ⌜ Tabled (grammar (now (book .entry))) (now (plausible .entry)) (now (counts .entry)) (now (feasible .entry)) (now (tally .entry))
         (now (up .entry)) (now (down .entry)) (said r) (now (up .exit)) (now (down .exit)) ⌝ }
 {
-    let ups = total_up(book, places, counts);
+    let all = totals(book, places, counts, tally);
+    let ups = all.up;
+    let downs = all.down;
     if (up.len() as u64) < ups {
         return Built::Refused {
             number: 12,
             place: 0,
         };
     }
-    let downs = total_down(book, places, counts, tally);
     if (down.len() as u64) / ENTRY < downs {
         return Built::Refused {
             number: 13,

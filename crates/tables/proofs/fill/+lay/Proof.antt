@@ -5,6 +5,7 @@ use Rattle.ranks.specs.Entries.{choices}
 use Rattle.tables.specs.Shape.{kinds-from}
 use Rattle.tables.specs.Fill.{entry-size, Choices}
 use Rattle.tables.proofs.FillRuns.{Blocks}
+use Rattle.tables.proofs.Shapes.{first-slot}
 use Rattle.tables.proofs.FillChoices.{slot-counted, leaf-asks, leaf-laid, lay-begun, lay-placed, lay-asks, lay-next, lay-done}
 use borrow.Fn.Kinds.{In}
 use borrow.Fn.PlainCycle.{Measures, is, falls, and}
@@ -66,19 +67,21 @@ module _ (t : ℕ) where
 
   tie-plausible-requires : lay-lts.Need-tie-plausible-requires (claims t) (lay-at t) lay.Post lay-Inv-loop lay-μ-loop
   tie-plausible-requires c κs =
-      let q = c .before .before .before .before .before .before .before .before .before .pre .1 in
+      let o = c .before .before .before .before .before .before .before .before .before in
+      let q = o .pre .1 in
       let l = q .0 in
-      (q .1 .standing .sized, q .1 .standing .ready, omega arith, lay-placed (q .1) l (c .before .before .before .if1 .left) (omega arith) (c .before .before .members-on .ensures) (omega arith))
+      (q .1 .standing .sized, q .1 .standing .ready, omega arith, lay-placed (q .1) l (c .before .before .before .if1 .left) (first-slot (o .args .v) (o .args .left)) (c .before .before .members-on .ensures) (c .loop-test .taken))
 
   sub-lay : lay-lts.Need-sub-lay (claims t) (lay-at t) lay.Post lay-Inv-loop lay-μ-loop
   sub-lay c = omega arith
 
   lay-requires : lay-lts.Need-lay-requires (claims t) (lay-at t) lay.Post lay-Inv-loop lay-μ-loop
   lay-requires c κs =
-      let p = c .before .before .before .before .before .before .before .before .before .before .before .before .pre in
+      let o = c .before .before .before .before .before .before .before .before .before .before .before .before in
+      let p = o .pre in
       let q = p .1 in
       let l = q .0 in
-      (omega (arith, p .0), (omega arith, lay-asks (q .1) l (c .before .before .before .before .before .before .if1 .left) (omega arith) (c .before .before .before .before .before .members-on .ensures) (c .before .before .before .before .loop .inv) (omega arith) (c .before .before .tie-plausible .ensures)))
+      (omega (arith, p .0), (omega arith, lay-asks (q .1) l (c .before .before .before .before .before .before .if1 .left) (first-slot (o .args .v) (o .args .left)) (c .before .before .before .before .before .members-on .ensures) (c .before .before .before .before .loop .inv) (c .before .before .before .loop-test .taken) (c .before .before .tie-plausible .ensures)))
 
   add-r : lay-lts.Need-add-r (claims t) (lay-at t) lay.Post lay-Inv-loop lay-μ-loop
   add-r c = omega arith
@@ -88,16 +91,18 @@ module _ (t : ℕ) where
 
   loop-again : lay-lts.Need-loop-again (claims t) (lay-at t) lay.Post lay-Inv-loop lay-μ-loop
   loop-again c =
-      let q = c .before .before .before .before .before .before .before .before .before .before .before .before .before .before .before .pre .1 in
-      lay-next (q .1) (q .0) (c .before .before .before .before .before .before .before .before .before .if1 .left) (omega arith) (c .before .before .before .before .before .before .before .before .members-on .ensures) (c .before .before .before .before .before .before .before .loop .inv) (omega arith) (c .before .before .before .before .before .tie-plausible .ensures) (c .before .before .lay .ensures)
+      let o = c .before .before .before .before .before .before .before .before .before .before .before .before .before .before .before in
+      let q = o .pre .1 in
+      lay-next (q .1) (q .0) (c .before .before .before .before .before .before .before .before .before .if1 .left) (first-slot (o .args .v) (o .args .left)) (c .before .before .before .before .before .before .before .before .members-on .ensures) (c .before .before .before .before .before .before .before .loop .inv) (c .before .before .before .before .before .before .loop-test .taken) (c .before .before .before .before .before .tie-plausible .ensures) (c .before .before .lay .ensures)
 
   same-length-2 : lay-lts.Need-same-length-2 (claims t) (lay-at t) lay.Post lay-Inv-loop lay-μ-loop
   same-length-2 c = c .before .loop .inv .laid .long
 
   returns-2 : lay-lts.Need-returns-2 (claims t) (lay-at t) lay.Post lay-Inv-loop lay-μ-loop
   returns-2 c =
-      let q = c .before .before .before .before .before .before .before .before .before .pre .1 in
-      lay-done (q .1) (q .0) (c .before .before .before .if1 .left) (omega arith) (c .before .before .members-on .ensures) (c .before .loop .inv) (omega arith)
+      let o = c .before .before .before .before .before .before .before .before .before in
+      let q = o .pre .1 in
+      lay-done (q .1) (q .0) (c .before .before .before .if1 .left) (first-slot (o .args .v) (o .args .left)) (c .before .before .members-on .ensures) (c .before .loop .inv) (c .loop-test .left)
 
 pub +lay-spec : {M : Type 1} → statement M
 +lay-spec = close μ-lay λ t. lay-lts.spec (claims t) (lay-at t) lay.Post lay-Inv-loop lay-μ-loop (put-entry-requires t) (same-length t) (returns t) (add-slot t) (sub-slot t) (members-on-requires t) (loop-holds t) (tie-plausible-requires t) (sub-lay t) (lay-requires t) (add-r t) (loop-less t) (loop-again t) (same-length-2 t) (returns-2 t)

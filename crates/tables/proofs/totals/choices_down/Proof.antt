@@ -12,28 +12,16 @@ cast-result : tie.Need-cast-result
 cast-result c = search needs
 
 shared-slice-read-result : tie.Need-shared-slice-read-result
-shared-slice-read-result c = c .before .before .before .before .pre .1 .here 0 (omega arith)
+shared-slice-read-result c = c .before .before .pre .0 .here 0 (omega arith)
 
 cast-result-2 : tie.Need-cast-result-2
-cast-result-2 c = omega (arith, c .before .before .before .before .pre .1 .few 0 (omega arith))
-
-choices-requires : tie.Need-choices-requires
-choices-requires c κs = search needs
+cast-result-2 c = omega (arith, c .before .before .pre .0 .few 0 (omega arith))
 
 mul-result : tie.Need-mul-result
-mul-result c = omega (arith, choose-down (c .before .before .before .before .before .args .counts .now) (c .before .before .before .before .before .pre .1) (c .choices .ensures) .1)
+mul-result c = omega (arith, choose-down (c .before .before .pre .0) (c .before .before .pre .1))
 
 returns : tie.Need-returns
-returns c = choose-down (c .before .before .before .before .before .args .counts .now) (c .before .before .before .before .before .pre .1) (c .choices .ensures)
+returns c = search needs
 
 pub choices-down-spec : {M : Type 1} → statement M
-choices-down-spec =
-    tie.close
-    (tie.spec
-    element-copy-out-result
-    cast-result
-    shared-slice-read-result
-    cast-result-2
-    choices-requires
-    mul-result
-    returns)
+choices-down-spec = tie.close (tie.spec element-copy-out-result cast-result shared-slice-read-result cast-result-2 mul-result returns)
