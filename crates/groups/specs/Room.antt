@@ -3,6 +3,7 @@ use Prim.Native.Nat.{ℕ, _+_, _*_}
 use mathlib.Core.List.{List}
 use lib.ListN.{replicate}
 use Rattle.chains.specs.Limits.{max-kinds, max-members, max-prods, max-kids, max-settings, max-nodes}
+use Rattle.book.specs.Format.{trailer-bytes}
 use Rattle.ranks.specs.Entries.{entry-bytes}
 use Rattle.tables.specs.Promise as tables
 use Rattle.tables.specs.Answer as tables-answer
@@ -19,7 +20,7 @@ node-room = 2730
 
 -- the largest book: kind entries of two bytes, production entries with four children and 255 pairs, the trailer
 abbrev pub most-book : ℕ
-most-book = 2 * max-kinds + max-prods * (3 + max-kids + 2 * 255) + 12
+most-book = 2 * max-kinds + max-prods * (3 + max-kids + 2 * 255) + trailer-bytes
 
 -- the largest input: the sheet's length, a sheet, a book
 abbrev pub most-input : ℕ
