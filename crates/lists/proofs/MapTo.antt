@@ -13,12 +13,6 @@ mapTo f (suc i) [] = []
 mapTo f (suc i) (x ∷ l) = f x ∷ mapTo f i l
 
 module _ (f : ℕ → ℕ) where
-  pub mapTo-long : (i : ℕ) (l : List ℕ) → length (mapTo f i l) ≡ length l
-  unfolding mapTo
-  mapTo-long zero l = refl
-  mapTo-long (suc i) [] = refl
-  mapTo-long (suc i) (x ∷ l) = ap suc (mapTo-long i l)
-
   turn : (i : ℕ) (l : List ℕ) → i < length l → set (mapTo f i l) i (f (getD (mapTo f i l) i 0)) ≡ mapTo f (suc i) l
   unfolding mapTo
   turn i [] h = absurd (not-suc-le-zero h)

@@ -2,7 +2,7 @@
 use mathlib.Core.List.{List, [], _∷_}
 use Prim.Native.Nat.{ℕ, zero, suc, _+_, _*_, _<_}
 use lib.ListN.{getD}
-use Rattle.chains.specs.Limits.{max-kids, max-settings}
+use Rattle.chains.specs.Limits.{max-kids, max-settings, no-label}
 use Rattle.chains.specs.Grammar.{Grammar}
 use Rattle.chains.specs.Grouping.{Members}
 
@@ -54,4 +54,4 @@ byte-values = 256
 
 -- the absence of a label or a rank
 abbrev pub none : ℕ
-none = 255
+none = no-label
