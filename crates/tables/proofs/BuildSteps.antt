@@ -1,5 +1,5 @@
 -- The build of an accepted book: from what its passes and its tables leave to what the whole does.
-use mathlib.Core.Path.{_≡_, sym, ap, _∙_, subst}
+use mathlib.Core.Path.{_≡_, refl, sym, ap, _∙_, subst}
 use mathlib.Core.Bool.{Bool, true, false}
 use mathlib.Core.List.{List, [], _∷_}
 use Prim.Native.Nat.{ℕ, _*_, _/_, _≤_, _<_}
@@ -8,49 +8,40 @@ use lib.ListN.{length}
 use Rattle.lists.specs.Pick.{pick}
 use Rattle.lists.specs.Refusals.{Said, accepted, refused}
 use Rattle.chains.specs.Grammar.{Grammar}
-use Rattle.chains.specs.Plausible.{Plausible}
-use Rattle.chains.specs.Feasible.{Feasible}
 use Rattle.book.specs.Format.{kinds, grammar}
-use Rattle.book.specs.Reading.{Index}
 use Rattle.ranks.specs.Entries.{entry-bytes}
 use Rattle.tables.specs.Entries.{UpTable, DownTable}
 use Rattle.tables.specs.Promise.{Lent, up-entries, down-entries, Written, zeros, wiped, BuildDue}
-use Rattle.tables.specs.Sweep.{Exact, Outcome}
-use Rattle.tables.specs.Shape.{Opened}
 use Rattle.tables.specs.declared.Built.{Built}
 use Rattle.tables.specs.declared.Built.the-variants.{Accepted, Refused}
 use Rattle.tables.specs.Answer.{said, lent}
-use Rattle.tables.specs.Making.{Ready, Settled, up-exceeds, down-exceeds, Tabled, Worked, refuses}
+use Rattle.tables.specs.Making.{Roomy, Ready, Passed, over-plausible, over-feasible, both-hold, Settled, up-exceeds, down-exceeds, Tabled, TabledAfter, Worked, refuses}
 use Rattle.tables.proofs.Sweeping.{holds-exact}
 use Rattle.tables.proofs.Exits.{refuse-plausible, refuse-feasible, tables-worked}
 use Rattle.tables.proofs.Building.{lents, refused-wiped}
 
 -- ── the passes ──
-module _ {b : List ℕ} {m : Lent} (ready : Ready b m) where
-  pub opened : {places : List ℕ} → Index b places → Opened b places
-  opened i = record { book = ready .book; index = i }
+module _ {b s c f d s′ c′ f′ d′ : List ℕ} where
+  -- passes that came to no refusal leave what the tables need
+  pub passed-settled : {n : ℕ} → Roomy (kinds b) (length s) (length c) (length f) (length d) → Passed b s c f d s′ c′ f′ d′ n → n ≡ 0 → Settled b s′ c′ f′ d′
+  passed-settled room (over-plausible o) e = absurd (omega arith)
+  passed-settled room (over-feasible h o) e = absurd (omega arith)
+  passed-settled room (both-hold p q) e = record {
+    plausible = holds-exact (room .plausible) (room .plausible-counts) p;
+    feasible = holds-exact (room .feasible) (room .feasible-counts) q;
+  }
 
-  pub worked-plausible : {s c : List ℕ} {r : Bool} (m′ : Lent) → Outcome (kinds b) (Plausible (grammar b)) (m .plausible) (m .plausible-counts) s c r
-      → r ≡ false → Worked b m (refused 10 0) m′
-  worked-plausible m′ o e = record { due = (refuse-plausible ready (o .over e), omega arith) }
-
-  module _ {s c : List ℕ} {r : Bool} (o : Outcome (kinds b) (Plausible (grammar b)) (m .plausible) (m .plausible-counts) s c r) (e : r ≡ true) where
-    pub plausible-held : Exact (kinds b) (Plausible (grammar b)) s c
-    plausible-held = holds-exact (ready .room .plausible) (ready .room .plausible-counts) (o .holds e)
-
-    pub worked-feasible : {f d : List ℕ} {q : Bool} (m′ : Lent) → Outcome (kinds b) (Feasible (grammar b)) (m .feasible) (m .feasible-counts) f d q
-        → q ≡ false → Worked b m (refused 11 0) m′
-    worked-feasible m′ p z = record { due = (refuse-feasible ready (o .holds e) (p .over z), omega arith) }
-
-    module _ {f d : List ℕ} {q : Bool} (p : Outcome (kinds b) (Feasible (grammar b)) (m .feasible) (m .feasible-counts) f d q) (z : q ≡ true) where
-      pub settled : Settled b s c f d
-      settled = record {
-        plausible = plausible-held;
-        feasible = holds-exact (ready .room .feasible) (ready .room .feasible-counts) (p .holds z);
-      }
-
-      pub worked-tables : (u w : List ℕ) (a : Said) → Tabled (grammar b) s c f d (m .up) (m .down) a u w → Worked b m a (lent s c f d u w)
-      worked-tables u w a t = record { due = tables-worked ready (o .holds e) (p .holds z) u w a (t .due) }
+-- THEOREM: passes and tables together
+pub passed-worked : {b : List ℕ} {m : Lent} {n : ℕ} → Ready b m → (s c f d u w : List ℕ) (a : Said)
+    → Passed b (m .plausible) (m .plausible-counts) (m .feasible) (m .feasible-counts) s c f d n
+    → TabledAfter n (grammar b) s c f d (m .up) (m .down) a u w → Worked b m a (lent s c f d u w)
+passed-worked {b} {m} ready s c f d u w a (over-plausible o) t =
+    let e : a ≡ refused 10 0 = t .stopped (λ z. omega arith) in
+    rw e (record { due = (refuse-plausible ready o, omega arith) })
+passed-worked {b} {m} ready s c f d u w a (over-feasible h o) t =
+    let e : a ≡ refused 11 0 = t .stopped (λ z. omega arith) in
+    rw e (record { due = (refuse-feasible ready h o, omega arith) })
+passed-worked {b} {m} ready s c f d u w a (both-hold p q) t = record { due = tables-worked ready p q u w a (t .passed refl .due) }
 
 -- ── the tables ──
 -- the u entries of the up table and the w entries of the down table, held against their slices
@@ -81,6 +72,15 @@ module _ (G : Grammar) (s c f d up down up′ down′ : List ℕ) {u : ℕ} (e :
         down-rest = t′ .1;
       };
     }
+
+-- what is said where the passes came to a refusal
+pub not-tabled : {n : ℕ} (G : Grammar) (s c f d up down : List ℕ) → (n ≡ 0 → ⊥) → TabledAfter n G s c f d up down (refused n 0) up down
+not-tabled G s c f d up down l = record { passed = λ e. absurd (l e); stopped = λ z. refl }
+
+-- and where they did not
+pub is-tabled : {n : ℕ} {G : Grammar} {s c f d up down : List ℕ} {a : Said} {up′ down′ : List ℕ} → n ≡ 0 → Tabled G s c f d up down a up′ down′
+    → TabledAfter n G s c f d up down a up′ down′
+is-tabled e t = record { passed = λ z. t; stopped = λ z. absurd (z e) }
 
 -- ── the whole ──
 -- what is left of the lent memory, wiped or not

@@ -14,6 +14,7 @@ use Rattle.book.specs.Format.{kinds, grammar}
 use Rattle.bookcheck.specs.Refusals as rows
 use Rattle.bookcheck.specs.Accepted.{Accepted}
 use Rattle.ranks.specs.Entries.{entry-bytes}
+use Rattle.tables.specs.Sets.{Over, Holds}
 use Rattle.tables.specs.Entries.{UpTable, DownTable}
 use Rattle.tables.specs.Promise.{Lent, up-entries, down-entries, Applies, Written, Built}
 use Rattle.tables.specs.Sweep.{Exact}
@@ -45,6 +46,12 @@ pub record Ready (b : List ℕ) (m : Lent) : Type 0 where
   pub clean : (n p : ℕ) → rows.Applies b n p → ⊥
   pub room : Roomy (kinds b) (length (m .plausible)) (length (m .plausible-counts)) (length (m .feasible)) (length (m .feasible-counts))
 
+-- what the passes leave of the sets and counts s c f d, and the refusal that one of them comes to, 0 for none
+pub data Passed (b s c f d s′ c′ f′ d′ : List ℕ) : ℕ → Type 0 where
+  over-plausible : Over (kinds b) (Plausible (grammar b)) → Passed b s c f d s′ c′ f′ d′ 10
+  over-feasible : Holds (kinds b) (Plausible (grammar b)) s c s′ c′ → Over (kinds b) (Feasible (grammar b)) → Passed b s c f d s′ c′ f′ d′ 11
+  both-hold : Holds (kinds b) (Plausible (grammar b)) s c s′ c′ → Holds (kinds b) (Feasible (grammar b)) f d f′ d′ → Passed b s c f d s′ c′ f′ d′ 0
+
 -- both sets hold what they are to hold
 pub record Settled (b s c f d : List ℕ) : Type 0 where
   pub plausible : Exact (kinds b) (Plausible (grammar b)) s c
@@ -72,6 +79,11 @@ TablesDue G s c f d u w (refused n p) u′ w′ = Exceeds G c d (length u) (leng
 
 pub record Tabled (G : Grammar) (s c f d u w : List ℕ) (a : Said) (u′ w′ : List ℕ) : Type 0 where
   pub due : TablesDue G s c f d u w a u′ w′
+
+-- after passes that came to the refusal n, 0 for none
+pub record TabledAfter (n : ℕ) (G : Grammar) (s c f d u w : List ℕ) (a : Said) (u′ w′ : List ℕ) : Type 0 where
+  pub passed : n ≡ 0 → Tabled G s c f d u w a u′ w′
+  pub stopped : (n ≡ 0 → ⊥) → a ≡ refused n 0
 
 -- ── the whole, before a refusal's memory is wiped ──
 abbrev pub WorkDue : List ℕ → Lent → Said → Lent → Type 0

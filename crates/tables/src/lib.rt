@@ -52,7 +52,17 @@ pub fn build(
                     place: 0,
                 };
             }
-            let built = making::work(book, plausible, counts, feasible, tally, up, down);
+            let number = making::passes(book, plausible, counts, feasible, tally);
+            let built = making::write_tables(
+                number,
+                book,
+                plausible,
+                counts,
+                feasible,
+                tally,
+                up,
+                down,
+            );
             zeros::wipe(
                 making::refuses(built),
                 plausible,

@@ -1,10 +1,11 @@
 // The build of an accepted book: the two passes, then the two tables.
 ghost use mathlib.Core.Path.{_≡_};
 ghost use Prim.Native.Nat.{_*_, _<_};
-ghost use Rattle.book.specs.Format.{grammar};
-ghost use Rattle.tables.specs.Answer.{said, lent};
-ghost use Rattle.tables.specs.Shape.{Opened};
-ghost use Rattle.tables.specs.Making.{Measured, Ready, Settled, Tabled, Worked, refuses};
+ghost use lib.ListN.{length};
+ghost use Rattle.book.specs.Format.{kinds, grammar};
+ghost use Rattle.bookcheck.specs.Accepted.{Accepted};
+ghost use Rattle.tables.specs.Answer.{said};
+ghost use Rattle.tables.specs.Making.{Roomy, Measured, Settled, Passed, TabledAfter, refuses};
 use super::Built;
 use super::downward::downward;
 use super::fill::fill_down;
@@ -36,10 +37,32 @@ pub fn too_short(n: usize, plausible: usize, counts: usize, feasible: usize, tal
     false
 }
 
-// Both tables, over the sets as they stand; nothing is written unless both fit.
-fn write_tables(
+// The two passes: 0, or the number of the refusal that one of them comes to. What a refusal leaves in the memory is not said.
+pub fn passes(
     book: &[u8],
-    places: &[usize; book::limits::MAX_PRODUCTIONS as usize],
+    plausible: &mut [u32],
+    counts: &mut [u8],
+    feasible: &mut [u32],
+    tally: &mut [u8],
+) -> u8
+    requires { ⌜ Accepted (now book) × Roomy (kinds (now book)) (length (now plausible)) (length (now counts)) (length (now feasible)) (length (now tally)) ⌝ }
+    ensures { λ r. ⌜ Passed (now (book .entry)) (now (plausible .entry)) (now (counts .entry)) (now (feasible .entry)) (now (tally .entry))
+        (now (plausible .exit)) (now (counts .exit)) (now (feasible .exit)) (now (tally .exit)) r ⌝ }
+{
+    let places = book::index(book);
+    if !upward(book, &places, plausible, counts) {
+        return 10;
+    }
+    if !downward(book, &places, plausible, counts, feasible, tally) {
+        return 11;
+    }
+    0
+}
+
+// Both tables, over the sets as they stand, unless the passes came to a refusal; nothing is written unless both fit.
+pub fn write_tables(
+    number: u8,
+    book: &[u8],
     plausible: &[u32],
     counts: &[u8],
     feasible: &[u32],
@@ -47,11 +70,15 @@ fn write_tables(
     up: &mut [u8],
     down: &mut [u8],
 ) -> Built
-    requires { ⌜ Opened (now book) (now places) × Settled (now book) (now plausible) (now counts) (now feasible) (now tally) ⌝ }
-    ensures { λ r. ⌜ Tabled (grammar (now (book .entry))) (now (plausible .entry)) (now (counts .entry)) (now (feasible .entry)) (now (tally .entry))
+    requires { ⌜ Accepted (now book) × (number ≡ 0 → Settled (now book) (now plausible) (now counts) (now feasible) (now tally)) ⌝ }
+    ensures { λ r. ⌜ TabledAfter number (grammar (now (book .entry))) (now (plausible .entry)) (now (counts .entry)) (now (feasible .entry)) (now (tally .entry))
         (now (up .entry)) (now (down .entry)) (said r) (now (up .exit)) (now (down .exit)) ⌝ }
 {
-    let all = totals(book, places, counts, tally);
+    if number != 0 {
+        return Built::Refused { number, place: 0 };
+    }
+    let places = book::index(book);
+    let all = totals(book, &places, counts, tally);
     let ups = all.up;
     let downs = all.down;
     if (up.len() as u64) < ups {
@@ -66,42 +93,12 @@ fn write_tables(
             place: 0,
         };
     }
-    fill_up(book, places, plausible, counts, feasible, tally, up);
-    fill_down(book, places, plausible, counts, feasible, tally, down);
+    fill_up(book, &places, plausible, counts, feasible, tally, up);
+    fill_down(book, &places, plausible, counts, feasible, tally, down);
     Built::Accepted {
         up: ups,
         down: downs,
     }
-}
-
-// The two passes, then the tables. What a refusal leaves in the memory is not said.
-pub fn work(
-    book: &[u8],
-    plausible: &mut [u32],
-    counts: &mut [u8],
-    feasible: &mut [u32],
-    tally: &mut [u8],
-    up: &mut [u8],
-    down: &mut [u8],
-) -> Built
-    requires { ⌜ Ready (now book) (lent (now plausible) (now counts) (now feasible) (now tally) (now up) (now down)) ⌝ }
-    ensures { λ r. ⌜ Worked (now (book .entry)) (lent (now (plausible .entry)) (now (counts .entry)) (now (feasible .entry)) (now (tally .entry)) (now (up .entry)) (now (down .entry)))
-        (said r) (lent (now (plausible .exit)) (now (counts .exit)) (now (feasible .exit)) (now (tally .exit)) (now (up .exit)) (now (down .exit))) ⌝ }
-{
-    let places = book::index(book);
-    if !upward(book, &places, plausible, counts) {
-        return Built::Refused {
-            number: 10,
-            place: 0,
-        };
-    }
-    if !downward(book, &places, plausible, counts, feasible, tally) {
-        return Built::Refused {
-            number: 11,
-            place: 0,
-        };
-    }
-    write_tables(book, &places, plausible, counts, feasible, tally, up, down)
 }
 
 // Whether an answer is a refusal.
