@@ -8,7 +8,7 @@ use lib.Seq.{take-at, drop-append-add, drop-drop, length-take-le}
 use Rattle.lists.specs.Part.{place}
 use Rattle.lists.proofs.Parts.{place-long}
 use Rattle.text.specs.Held.{Added, fits, full}
-use Rattle.groups.specs.Adding.{Adds, Holds}
+use Rattle.groups.specs.Adding.{Adds, TextHeld}
 
 place-behind : (s v w : List ℕ) (h : ℕ) → h + length v + length w ≤ length s → place (h + length v) w (place h v s) ≡ place h (v ++ w) s
 place-behind s v w h g =
@@ -48,7 +48,7 @@ pub same-text : {s v w s′ : List ℕ} {h h′ : ℕ} → v ≡ w → Adds s h 
 same-text {s} {v} {w} {s′} {h} {h′} e a = subst (λ (x : List ℕ). Adds s h x s′ h′) e a
 
 -- a text that was added to nothing, where it had room
-pub held-all : {s w s′ : List ℕ} {h : ℕ} → Adds s 0 w s′ h → length w ≤ length s → Holds s′ h w
+pub held-all : {s w s′ : List ℕ} {h : ℕ} → Adds s 0 w s′ h → length w ≤ length s → TextHeld s′ h w
 held-all {s} {w} {s′} {h} a g =
     let room : 0 + length w ≤ length s = omega arith in
     let (e, k) = a .room room in

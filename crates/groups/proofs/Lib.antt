@@ -2,4 +2,5 @@ pub mod Cutting
 pub mod Adding
 pub mod Printing
 pub mod Measuring
+pub mod Telling
 pub mod Answering

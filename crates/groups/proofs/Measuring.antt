@@ -15,14 +15,13 @@ use Rattle.sheet.proofs.Accepted.{book-accepted, byte-low}
 use Rattle.numbering.specs.Promise.{Lent}
 use Rattle.text.specs.Decimals.{decimals}
 use Rattle.text.proofs.Spelling.{decimals-short}
-use Rattle.groups.specs.Room.{node-room}
+use Rattle.groups.specs.Room.{node-room, down-room}
 use Rattle.groups.specs.Printed.{numbers, refusal, totals, line, node-line, lines, own-groups, printed}
 use Rattle.groups.specs.Adding.{Printable, most-totals, most-line, most-text}
 
 -- the numbers are those that their types hold
 pub record Typed (l : List ℕ) (m : Lent) : Type 0 where
   pub bytes : (i : ℕ) → getD l i 0 < 2 ^ 8
-  pub nodes : (i : ℕ) → getD (m .nodes) i 0 < 2 ^ 64
   pub groups : (i : ℕ) → getD (m .groups) i 0 < 2 ^ 16
 
 numbers-short : (l : List ℕ) → ((i : ℕ) → i < length l → getD l i 0 < 2 ^ 16) → length (numbers l) ≤ 6 * length l
@@ -33,15 +32,15 @@ numbers-short (n ∷ l) h =
     let r : length (numbers l) ≤ 6 * length l = numbers-short l (λ i k. h (suc i) (omega arith)) in
     omega (arith, length-append (decimals n) (numbers l))
 
-line-short : (i p u f e : ℕ) (own : List ℕ) → i < 10000 → p < 2 ^ 8 → u < 2 ^ 64 → f < 2 ^ 64 → e < 2 ^ 64 → ((k : ℕ) → k < length own → getD own k 0 < 2 ^ 16)
+line-short : (i p u f e : ℕ) (own : List ℕ) → i < 10000 → p < 2 ^ 8 → u < 2 ^ 8 → f < 2 ^ 8 → e < down-room → ((k : ℕ) → k < length own → getD own k 0 < 2 ^ 16)
     → length own ≤ max-settings → length (line i p u f e own) ≤ most-line
 unfolding numbers
 line-short i p u f e own hi hp hu hf he ho few =
     let a : length (decimals i) ≤ 4 = decimals-short i 4 (omega arith) (omega arith) in
     let b : length (decimals p) ≤ 3 = decimals-short p 3 (omega arith) (omega arith) in
-    let c : length (decimals u) ≤ 20 = decimals-short u 20 (omega arith) (omega arith) in
-    let d : length (decimals f) ≤ 20 = decimals-short f 20 (omega arith) (omega arith) in
-    let g : length (decimals e) ≤ 20 = decimals-short e 20 (omega arith) (omega arith) in
+    let c : length (decimals u) ≤ 3 = decimals-short u 3 (omega arith) (omega arith) in
+    let d : length (decimals f) ≤ 3 = decimals-short f 3 (omega arith) (omega arith) in
+    let g : length (decimals e) ≤ 4 = decimals-short e 4 (omega arith) (omega arith) in
     let o : length (numbers own) ≤ 6 * length own = numbers-short own ho in
     simp length-append (omega arith)
 
@@ -80,7 +79,7 @@ unfolding lines
 lines-short p t zero h = omega arith
 lines-short {b} {l} {m} p t (suc n) h =
     let before : length (lines (grammar b) l m n) ≤ most-line * n = lines-short p t n (omega arith) in
-    let this : length (node-line (grammar b) l m n) ≤ most-line = line-short n _ _ _ _ (own-groups (grammar b) l m n) (omega (arith, p .few)) (t .bytes n) (t .nodes (3 * n + 0)) (t .nodes (3 * n + 1)) (t .nodes (3 * n + 2)) (own-typed b l m t n) (own-few p n h) in
+    let this : length (node-line (grammar b) l m n) ≤ most-line = line-short n _ _ _ _ (own-groups (grammar b) l m n) (omega (arith, p .few)) (t .bytes n) (p .ranks n h .0) (p .ranks n h .1) (p .entries n h) (own-typed b l m t n) (own-few p n h) in
     omega (arith, length-append (lines (grammar b) l m n) (node-line (grammar b) l m n))
 
 -- THEOREM: whatever is printed of an answer has room

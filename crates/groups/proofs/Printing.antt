@@ -15,9 +15,10 @@ use Rattle.bookcheck.proofs.Accepted.{settings-read, place-read}
 use Rattle.sheet.specs.Reading.{all-settings}
 use Rattle.sheet.proofs.Reading.{settings-next}
 use Rattle.numbering.specs.Promise.{Lent}
+use Rattle.numbering.specs.Places.{plausible-rank, feasible-rank, down-entry-of}
 use Rattle.text.specs.Decimals.{decimals}
 use Rattle.text.specs.Held.{Added}
-use Rattle.groups.specs.Printed.{word-refused, word-ok, blank, line-end, numbers, refusal, totals, line, node-line, lines, plausible-rank, feasible-rank, down-entry, own-groups}
+use Rattle.groups.specs.Printed.{word-refused, word-ok, blank, line-end, numbers, refusal, totals, line, node-line, lines, own-groups}
 use Rattle.groups.specs.Adding.{Adds, Printable}
 use Rattle.groups.proofs.Adding.{added, nothing, followed, same-text}
 
@@ -114,14 +115,14 @@ own-end {b} {l} {i = i} p g k e = omega (arith, p .groups, g .place, settings-ne
 
 pub listing-turn : {b l : List ℕ} {m : Lent} {s s₁ s₂ : List ℕ} {h h₁ h₂ next i w : ℕ} → Listing b l m s h s₁ h₁ next i → i < length l
     → w ≡ grammar b .settings (grammar b .left (getD l i 0)) → length s₂ ≡ length s₁
-    → Adds s₁ h₁ (line i (getD l i 0) (plausible-rank m i) (feasible-rank m i) (down-entry m i) (part next (next + w - next) (m .groups))) s₂ h₂
+    → Adds s₁ h₁ (line i (getD l i 0) (plausible-rank (m .nodes) i) (feasible-rank (m .nodes) i) (down-entry-of (m .nodes) i) (part next (next + w - next) (m .groups))) s₂ h₂
     → Listing b l m s h s₂ h₂ (next + w) (i + 1)
 unfolding lines
 listing-turn {b} {l} {m} {next = next} {i = i} {w = w} g k e z a =
     let wide : next + w - next ≡ grammar b .settings (grammar b .left (getD l i 0)) = omega arith in
     let own : part next (next + w - next) (m .groups) ≡ own-groups (grammar b) l m i = ap (λ (n : ℕ). part next n (m .groups)) wide
     ∙ ap (λ (n : ℕ). part n (grammar b .settings (grammar b .left (getD l i 0))) (m .groups)) (g .place) in
-    let row = ap (λ (x : List ℕ). lines (grammar b) l m i ++ line i (getD l i 0) (plausible-rank m i) (feasible-rank m i) (down-entry m i) x) own in
+    let row = ap (λ (x : List ℕ). lines (grammar b) l m i ++ line i (getD l i 0) (plausible-rank (m .nodes) i) (feasible-rank (m .nodes) i) (down-entry-of (m .nodes) i) x) own in
     let more : suc i ≡ i + 1 = omega arith in
     let after : next + w ≡ all-settings (grammar b) (take (i + 1) l) = subst (λ (n : ℕ). next + w ≡ all-settings (grammar b) (take n l)) more (omega (arith, settings-next (grammar b) l i k, g .place)) in
     record {

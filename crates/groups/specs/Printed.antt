@@ -1,5 +1,5 @@
 -- What the program prints: text, as bytes.
-use Prim.Native.Nat.{ℕ, zero, suc, _+_, _*_}
+use Prim.Native.Nat.{ℕ, zero, suc}
 use mathlib.Core.List.{List, [], _∷_, _++_}
 use lib.ListN.{length, getD, take}
 use Rattle.lists.specs.Part.{part}
@@ -8,6 +8,7 @@ use Rattle.chains.specs.Grammar.{Grammar}
 use Rattle.book.specs.Format.{grammar}
 use Rattle.sheet.specs.Reading.{all-settings}
 use Rattle.numbering.specs.Promise.{Lent}
+use Rattle.numbering.specs.Places.{plausible-rank, feasible-rank, down-entry-of}
 use Rattle.text.specs.Decimals.{decimals}
 
 -- `refused`, `ok`, a blank, the end of a line
@@ -40,25 +41,13 @@ totals counts = word-ok ++ numbers counts ++ line-end
 abbrev pub line : (position production plausible feasible entry : ℕ) → List ℕ → List ℕ
 line position production plausible feasible entry groups = decimals position ++ numbers (production ∷ plausible ∷ feasible ∷ entry ∷ groups) ++ line-end
 
--- ── what the answer m has of node i: three places, and the group numbers of its settings, which follow those of the nodes before it ──
-abbrev pub place-of : List ℕ → ℕ → ℕ → ℕ
-place-of nodes i j = getD nodes (3 * i + j) 0
-
-abbrev pub plausible-rank : Lent → ℕ → ℕ
-plausible-rank m i = place-of (m .nodes) i 0
-
-abbrev pub feasible-rank : Lent → ℕ → ℕ
-feasible-rank m i = place-of (m .nodes) i 1
-
-abbrev pub down-entry : Lent → ℕ → ℕ
-down-entry m i = place-of (m .nodes) i 2
-
+-- the group numbers of node i's settings, which follow those of the nodes before it
 abbrev pub own-groups : Grammar → List ℕ → Lent → ℕ → List ℕ
 own-groups G l m i = part (all-settings G (take i l)) (G .settings (G .left (getD l i 0))) (m .groups)
 
 -- the line of node i of the sheet l, and those of its first n nodes
 abbrev pub node-line : Grammar → List ℕ → Lent → ℕ → List ℕ
-node-line G l m i = line i (getD l i 0) (plausible-rank m i) (feasible-rank m i) (down-entry m i) (own-groups G l m i)
+node-line G l m i = line i (getD l i 0) (plausible-rank (m .nodes) i) (feasible-rank (m .nodes) i) (down-entry-of (m .nodes) i) (own-groups G l m i)
 
 unfoldable pub lines : Grammar → List ℕ → Lent → ℕ → List ℕ
 lines G l m zero = []

@@ -26,14 +26,14 @@ most-book = 2 * max-kinds + max-prods * (3 + max-kids + 2 * 255) + trailer-bytes
 abbrev pub most-input : ℕ
 most-input = 2 + max-nodes + most-book
 
-abbrev pub zeros : ℕ → List ℕ
-zeros n = replicate n 0
+abbrev pub zeroed : ℕ → List ℕ
+zeroed n = replicate n 0
 
 -- what the build is lent: sets and counts for every kind that a book can have, and the two tables
 abbrev pub build-room : tables.Lent
-build-room = tables-answer.lent (zeros (max-members * max-kinds)) (zeros max-kinds) (zeros (max-members * max-kinds)) (zeros max-kinds) (zeros up-room)
-    (zeros (entry-bytes * down-room))
+build-room = tables-answer.lent (zeroed (max-members * max-kinds)) (zeroed max-kinds) (zeroed (max-members * max-kinds)) (zeroed max-kinds) (zeroed up-room)
+    (zeroed (entry-bytes * down-room))
 
 -- what the sheet call is lent: three places for each node, and as many group numbers as its kind can have settings
 abbrev pub sheet-room : numbering.Lent
-sheet-room = numbering.lent (zeros (3 * node-room)) (zeros (max-settings * node-room))
+sheet-room = numbering.lent (zeroed (3 * node-room)) (zeroed (max-settings * node-room))

@@ -3,9 +3,12 @@ mod input;
 mod print;
 mod room;
 
-ghost use Prim.Native.Nat.{_≤_};
+ghost use Prim.Native.Nat.{_*_, _≤_};
+ghost use mathlib.Core.Path.{_≡_};
 ghost use lib.ListN.{length, take};
+ghost use Rattle.ranks.specs.Entries.{entry-bytes};
 ghost use Rattle.numbering.specs.Walk.{tables};
+ghost use Rattle.groups.specs.Room.{down-room};
 ghost use Rattle.groups.specs.Adding.{most-text};
 ghost use Rattle.groups.specs.Answers.{Answers, BookText, SheetText};
 use input::Parts;
@@ -75,7 +78,7 @@ fn group(
     down: &[u8],
     out: &mut [u8],
 ) -> usize
-    requires { ⌜ most-text ≤ length (now out) ⌝ }
+    requires { ⌜ (most-text ≤ length (now out)) × (length (now down) ≡ entry-bytes * down-room) ⌝ }
     ensures { λ r. ⌜ (r ≤ length (now (out .exit))) × SheetText (now (book .entry)) (now (sheet .entry))
         (tables (now («plausible_counts» .entry)) (now («feasible_counts» .entry)) (now (up .entry)) (now (down .entry))) (take r (now (out .exit))) ⌝ }
 {

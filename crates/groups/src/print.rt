@@ -8,10 +8,11 @@ ghost use Rattle.book.specs.Format.{prods, grammar};
 ghost use Rattle.book.specs.Reading.{Index};
 ghost use Rattle.bookcheck.specs.Accepted.{Accepted};
 ghost use Rattle.numbering.specs.Promise.{lent};
+ghost use Rattle.numbering.specs.Places.{plausible-rank, feasible-rank, down-entry-of};
 ghost use Rattle.text.specs.Decimals.{decimals};
-ghost use Rattle.groups.specs.Printed.{blank, line-end, refusal, totals, place-of, printed};
+ghost use Rattle.groups.specs.Printed.{blank, line-end, refusal, totals, printed};
 ghost use Rattle.groups.specs.Printed.{numbers as Printed·numbers, line as Printed·line, lines as Printed·lines};
-ghost use Rattle.groups.specs.Adding.{Adds, Holds, Printable, most-text};
+ghost use Rattle.groups.specs.Adding.{Adds, TextHeld, Printable, most-text};
 use book::limits::MAX_PRODUCTIONS;
 
 // A node's three places.
@@ -37,7 +38,7 @@ fn end_line(out: &mut [u8], held: usize) -> usize
 
 pub fn refused(out: &mut [u8], number: u8, place: u16) -> usize
     requires { ⌜ most-text ≤ length (now out) ⌝ }
-    ensures { λ r. ⌜ Holds (now (out .exit)) r (refusal number place) ⌝ }
+    ensures { λ r. ⌜ TextHeld (now (out .exit)) r (refusal number place) ⌝ }
 {
     let h = text::add(out, 0, b"refused");
     let h = next_number(out, h, number as u64);
@@ -56,7 +57,7 @@ pub fn accepted(
     g: u16,
 ) -> usize
     requires { ⌜ (most-text ≤ length (now out)) × Printable (now book) (now sheet) (lent (now nodes) (now groups)) ⌝ }
-    ensures { λ r. ⌜ Holds (now (out .exit)) r
+    ensures { λ r. ⌜ TextHeld (now (out .exit)) r
         (printed (now (book .entry)) (now (sheet .entry)) (accepted (n ∷ settings ∷ g ∷ [])) (lent (now (nodes .entry)) (now (groups .entry)))) ⌝ }
 {
     let h = first_line(out, n, settings, g);
@@ -111,7 +112,7 @@ fn line(
 ) -> usize
     requires { ⌜ 3 * i + 2 < length (now nodes) ⌝ }
     ensures { λ r. ⌜ Adds (now (out .entry)) held
-        (Printed·line i production (place-of (now (nodes .entry)) i 0) (place-of (now (nodes .entry)) i 1) (place-of (now (nodes .entry)) i 2) (now (groups .entry)))
+        (Printed·line i production (plausible-rank (now (nodes .entry)) i) (feasible-rank (now (nodes .entry)) i) (down-entry-of (now (nodes .entry)) i) (now (groups .entry)))
         (now (out .exit)) r ⌝ }
 {
     let h = text::add_decimal(out, held, i as u64);

@@ -22,6 +22,6 @@ pub const GROUP_PLACES: usize = book::limits::MAX_SETTINGS as usize * NODES;
 // Bytes of the longest first line, of a node's longest line, and of the longest text.
 const TOTALS: usize = 21;
 
-const LINE: usize = 120;
+const LINE: usize = 70;
 
 pub const TEXT: usize = TOTALS + LINE * NODES;

@@ -1,5 +1,5 @@
 use Rattle.tables.specs.Answer.{lent}
-use Rattle.groups.proofs.Answering.{unbuilt-text, built-text}
+use Rattle.groups.proofs.Answering.{unbuilt-text, built-text, down-long}
 use borrow.Author.Needs.{needs}
 use Rattle.groups.proofs.build.Statement.{statement}
 use Rattle.groups.proofs.build.Tie as tie
@@ -47,7 +47,7 @@ slice-aggregate-group-4 : tie.Need-slice-aggregate-group-4
 slice-aggregate-group-4 c = search needs
 
 group-requires : tie.Need-group-requires
-group-requires c κs = search needs
+group-requires c κs = (c .before .before .before .before .before .before .before .before .before .before .before .before .before .before .before .before .before .before .before .before .before .before .before .pre, down-long (c .before .before .before .before .before .before .before .before .before .before .before .before .before .build .kept .1 .1 .1 .1 .1 .1 .0))
 
 same-length : tie.Need-same-length
 same-length c = search needs

@@ -36,8 +36,8 @@ accepted-requires c κs =
     let by = tables (a .plausible-counts .now) (a .feasible-counts .now) (a .up .now) (a .down .now) in
     let left = lent (done .last .1 .1 .1 .1 .1 .1 .0) (done .last .1 .1 .1 .1 .1 .1 .1 .0) in
     let kept = done .kept .1 .1 .1 .1 .1 .1 in
-    let fit = printable (a .book .now) (a .sheet .now) by left (done .result) (done .ensures) (c .before .before .before .before .n .given .1) (kept .0) (kept .1 .0) in
-    (c .before .before .before .before .before .before .before .before .before .before .before .before .before .before .before .before .before .before .pre, fit)
+    let fit = printable (a .book .now) (a .sheet .now) by left (done .result) (done .ensures) (c .before .before .before .before .n .given .1) (kept .0) (kept .1 .0) (c .before .before .before .before .before .before .before .before .before .before .before .before .before .before .before .before .before .before .pre .1) (λ i. c .before .before .before .before .before .before .before .before .before .before .before .before .before .shared-slice-known5 .given i .fits) (λ i. c .before .before .before .before .before .before .before .before .before .before .before .before .shared-slice-known6 .given i .fits) in
+    (c .before .before .before .before .before .before .before .before .before .before .before .before .before .before .before .before .before .before .pre .0, fit)
 
 same-length : tie.Need-same-length
 same-length c = search needs

@@ -22,7 +22,7 @@ returns c =
     (at-most
     (printed-short
     (c .before .before .before .before .before .before .before .before .before .before .before .before .before .pre .1)
-    (record { bytes = λ i. c .before .before .before .before .before .before .before .before .before .before .shared-slice-known2 .given i .fits; nodes = λ i. c .before .before .before .before .before .before .before .before .before .shared-slice-known3 .given i .fits; groups = λ i. c .before .before .before .before .before .before .before .before .shared-slice-known4 .given i .fits })
+    (record { bytes = λ i. c .before .before .before .before .before .before .before .before .before .before .shared-slice-known2 .given i .fits; groups = λ i. c .before .before .before .before .before .before .before .before .shared-slice-known4 .given i .fits })
     (a .n)
     (a .settings)
     (a .g)

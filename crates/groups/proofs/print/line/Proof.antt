@@ -1,4 +1,12 @@
-use Rattle.groups.specs.Printed.{place-of}
+use Prim.Native.Nat.{ℕ, _+_, _*_}
+use mathlib.Core.Path.{_≡_, ap}
+use mathlib.Core.List.{_∷_}
+use native.Mathlib.Omega.{arith}
+use lib.ListN.{getD}
+use Rattle.numbering.specs.Places.{plausible-rank, feasible-rank, down-entry-of}
+use Rattle.text.specs.Decimals.{decimals}
+use Rattle.groups.specs.Printed.{blank}
+use Rattle.groups.proofs.Adding.{same-text}
 use Rattle.groups.proofs.Printing.{line-text}
 use borrow.Author.Needs.{needs}
 use Rattle.groups.proofs.print.line.Statement.{statement}
@@ -68,8 +76,10 @@ returns : tie.Need-returns
 returns c =
     let a = c .before .before .before .before .before .before .before .before .before .before .before .before .before .before .before .before .before .before .before .before .before .before .before .before .before .before .before .before .before .before .before .before .before .before .args in
     let told = a .nodes .now in
-    line-text (a .i) (a .production) (place-of told (a .i) 0) (place-of told (a .i) 1) (place-of told (a .i) 2) (a .groups .now) (c .before .before .before .before .before .before .before .before .before .before .before .before .before .before .before .before .before .before .before .before .before .before .before .before .before .before .before .before .before .add-decimal .ensures)
-    (c .before .before .before .before .before .before .before .before .before .before .before .before .before .before .before .before .before .before .before .before .before .before .before .before .before .next-number .ensures) (c .before .before .before .before .before .before .before .before .before .before .before .before .before .before .before .before .before .before .before .before .next-number2 .ensures) (c .before .before .before .before .before .before .before .before .before .before .before .before .before .before .before .next-number3 .ensures) (c .before .before .before .before .before .before .before .before .before .before .next-number4 .ensures) (c .before .before .before .before .before .before .numbers .ensures) (c .before .before .end-line .ensures)
+    let first : 3 * a .i + 0 ≡ 3 * a .i = omega arith in
+    line-text (a .i) (a .production) (plausible-rank told (a .i)) (feasible-rank told (a .i)) (down-entry-of told (a .i)) (a .groups .now) (c .before .before .before .before .before .before .before .before .before .before .before .before .before .before .before .before .before .before .before .before .before .before .before .before .before .before .before .before .before .add-decimal .ensures)
+    (c .before .before .before .before .before .before .before .before .before .before .before .before .before .before .before .before .before .before .before .before .before .before .before .before .before .next-number .ensures) (same-text (ap (λ (k : ℕ). blank ∷ decimals (getD told k 0)) first) (c .before .before .before .before .before .before .before .before .before .before .before .before .before .before .before .before .before .before .before .before .next-number2 .ensures)) (c .before .before .before .before .before .before .before .before .before .before .before .before .before .before .before .next-number3 .ensures)
+    (c .before .before .before .before .before .before .before .before .before .before .next-number4 .ensures) (c .before .before .before .before .before .before .numbers .ensures) (c .before .before .end-line .ensures)
 
 pub line-spec : {M : Type 1} → statement M
 line-spec =
