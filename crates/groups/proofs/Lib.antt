@@ -5,3 +5,4 @@ pub mod Measuring
 pub mod Telling
 pub mod Answering
 pub mod Once
+pub mod Figure
