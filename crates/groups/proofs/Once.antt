@@ -6,7 +6,6 @@ use native.Mathlib.Omega.{arith}
 use lib.ListN.{length, getD, drop}
 use Rattle.lists.specs.Refusals.{Said, accepted, refused}
 use Rattle.lists.proofs.Refusals.{first-once}
-use Rattle.chains.specs.Grammar.{Grammar}
 use Rattle.chains.specs.Tree.{Bush}
 use Rattle.book.specs.Format.{grammar}
 use Rattle.sheet.specs.Reading.{all-settings}
