@@ -1,12 +1,12 @@
 -- From what the calls promise to what the program answers.
 use mathlib.Core.Path.{_≡_, refl, sym, ap, subst, _∙_}
-use mathlib.Core.Logic.{_⊎_, inl, inr}
+use mathlib.Core.Logic.{inl, inr}
 use mathlib.Core.List.{List, [], _∷_}
 use Prim.Native.Nat.{ℕ, _+_, _*_, _^_, _≤_, _<_}
 use native.Mathlib.Omega.{arith}
 use native.Mathlib.Decide.{decLe}
 use lib.ListN.{length, getD, drop, length-replicate}
-use Rattle.lists.specs.Refusals.{Said, accepted, refused}
+use Rattle.lists.specs.Refusals.{accepted}
 use Rattle.book.specs.Format.{grammar}
 use Rattle.sheet.specs.Reading.{all-settings}
 use Rattle.sheet.proofs.Accepted.{accepted-sheet}

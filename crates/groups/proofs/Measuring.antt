@@ -1,11 +1,9 @@
 -- How long the texts are: all of them have room.
-use mathlib.Core.Path.{_≡_, refl, sym, ap, subst, _∙_}
-use mathlib.Core.List.{List, [], _∷_, _++_}
-use Prim.Native.Nat.{ℕ, zero, suc, _+_, _*_, _^_, _≤_, _<_, min}
+use mathlib.Core.Path.{sym, subst}
+use mathlib.Core.List.{List, [], _∷_}
+use Prim.Native.Nat.{ℕ, zero, suc, _+_, _*_, _^_, _≤_, _<_}
 use native.Mathlib.Omega.{arith}
-use native.Mathlib.Nat.{mul-suc}
 use lib.ListN.{length, getD, take, drop, length-append, length-take}
-use Rattle.lists.specs.Part.{part}
 use Rattle.lists.specs.Refusals.{accepted}
 use Rattle.lists.proofs.Parts.{getD-part}
 use Rattle.chains.specs.Limits.{max-settings}

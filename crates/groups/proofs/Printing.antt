@@ -1,10 +1,10 @@
 -- The texts that the program prints, from their parts.
 use mathlib.Core.Path.{_≡_, refl, sym, ap, subst, _∙_}
 use mathlib.Core.List.{List, [], _∷_, _++_, append-assoc, append-nil}
-use Prim.Native.Nat.{ℕ, zero, suc, _+_, _-_, _*_, _≤_, _<_}
+use Prim.Native.Nat.{ℕ, zero, suc, _+_, _-_, _≤_, _<_}
 use native.Mathlib.Omega.{arith}
 use native.Mathlib.Numerals.{add-one}
-use lib.ListN.{length, getD, take, drop}
+use lib.ListN.{length, getD, take}
 use lib.Seq.{take-suc, take-all}
 use Rattle.lists.specs.Part.{part}
 use Rattle.chains.specs.Grammar.{Grammar}
@@ -18,7 +18,7 @@ use Rattle.numbering.specs.Promise.{Lent}
 use Rattle.numbering.specs.Places.{plausible-rank, feasible-rank, down-entry-of}
 use Rattle.text.specs.Decimals.{decimals}
 use Rattle.text.specs.Held.{Added}
-use Rattle.groups.specs.Printed.{word-refused, word-ok, blank, line-end, numbers, refusal, totals, line, node-line, lines, own-groups}
+use Rattle.groups.specs.Printed.{word-refused, word-ok, blank, line-end, numbers, refusal, totals, line, lines, own-groups}
 use Rattle.groups.specs.Adding.{Adds, Printable}
 use Rattle.groups.proofs.Adding.{added, nothing, followed, same-text}
 

@@ -1,8 +1,8 @@
 -- What a sheet call tells of its nodes is small: ranks are read from tables of bytes, and no entry lies past the down table.
-use mathlib.Core.Path.{_≡_, refl, sym, ap, subst, _∙_}
+use mathlib.Core.Path.{_≡_, sym, subst}
 use mathlib.Core.Logic.{inl}
 use mathlib.Core.List.{List, [], _∷_, _++_}
-use Prim.Native.Nat.{ℕ, zero, suc, _+_, _*_, _^_, _≤_, _<_}
+use Prim.Native.Nat.{ℕ, zero, suc, _+_, _*_, _^_, _<_}
 use native.Mathlib.Omega.{arith}
 use native.Mathlib.Decide.{decLt}
 use lib.ListN.{length, getD, List·getD-append}
@@ -14,7 +14,7 @@ use Rattle.numbering.specs.Walk.{Tables, ranks, entry-of, given, places, starte
 use Rattle.numbering.specs.Promise.{TreeOf, entry-at, BadDown}
 use Rattle.numbering.specs.Places.{plausible-rank, feasible-rank, down-entry-of}
 use Rattle.numbering.proofs.Told.{places-long}
-use Rattle.numbering.proofs.Trees.{tree-size, node-at}
+use Rattle.numbering.proofs.Trees.{tree-size}
 use Rattle.groups.specs.Room.{down-room}
 
 -- three places for each node, of which the first two are bytes

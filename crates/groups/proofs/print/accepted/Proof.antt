@@ -1,5 +1,5 @@
 use Rattle.groups.proofs.Adding.{followed, held-all}
-use Rattle.groups.proofs.Measuring.{Typed, printed-short, at-most}
+use Rattle.groups.proofs.Measuring.{printed-short, at-most}
 use borrow.Author.Needs.{needs}
 use Rattle.groups.proofs.print.accepted.Statement.{statement}
 use Rattle.groups.proofs.print.accepted.Tie as tie
