@@ -5,6 +5,7 @@ use Rattle.book.proofs.Places.{index-once}
 use Rattle.sheet.proofs.Once as sheet
 use Rattle.admission.proofs.Once.{admit-once}
 use Rattle.service.proofs.Word.{book-word-once, sheet-word-once}
+use Rattle.ranks.proofs.Measuring.{room-once}
 use Rattle.ranks.proofs.Finds.{read-up-once, read-down-once, child-rank-once, label-once, started-once}
 use Rattle.tables.specs.declared.Built.{Built}
 use Rattle.tables.specs.declared.Built.the-variants as build
@@ -12,6 +13,7 @@ use Rattle.tables.specs.Answer as build-answer
 use Rattle.zeros.proofs.Once.{clear-once, wipe-once}
 use Rattle.slices.proofs.Once.{insert-once, relabel-once, lay-once}
 use Rattle.members.proofs.Once.{place-of-once, put-once}
+use Rattle.members.proofs.Measuring.{too-short-once}
 use Rattle.blocks.proofs.Carried.{occurrences-once}
 use Rattle.blocks.proofs.SetMembers.{block-size-once, first-occurrence-once}
 use Rattle.tables.proofs.Promise.{build-once}
@@ -51,6 +53,8 @@ one-outcome = record {
   lay = lay-once;
   place-of = place-of-once;
   put = put-once;
+  too-short = too-short-once;
+  room-for = room-once;
   occurrences = occurrences-once;
   block-size = block-size-once;
   first-occurrence = first-occurrence-once;

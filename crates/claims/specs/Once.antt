@@ -7,6 +7,7 @@ use Rattle.zeros.specs.Zeros as zeros
 use Rattle.slices.specs.Slices as slices
 use Rattle.members.specs.declared.Turn.{Turn}
 use Rattle.members.specs.Sets as members
+use Rattle.members.specs.Room.{Measured}
 use Rattle.bookcheck.specs.declared.Checked.{Checked}
 use Rattle.bookcheck.specs.Answer as book-answer
 use Rattle.bookcheck.specs.Refusals.{BookDue}
@@ -22,6 +23,8 @@ use Rattle.ranks.specs.declared.Plausible.{Plausible}
 use Rattle.ranks.specs.declared.Feasible.{Feasible}
 use Rattle.ranks.specs.declared.UpRead.{UpRead}
 use Rattle.ranks.specs.declared.DownRead.{DownRead}
+use Rattle.ranks.specs.declared.Room.{Room}
+use Rattle.ranks.specs.Room.{room-said, RoomDue}
 use Rattle.ranks.specs.Reads.{up-said, down-said, UpFinds, DownFinds, child-rank-at, label-at}
 use Rattle.tables.specs.declared.Built.{Built}
 use Rattle.tables.specs.Answer as build-answer
@@ -55,6 +58,9 @@ pub record OneOutcome : Type 0 where
   -- the sets in lent memory: a place sought, a number put in
   pub place-of : (s : List ℕ) (base n x i j : ℕ) → members.Sought s base n x i → members.Sought s base n x j → i ≡ j
   pub put : (k x : ℕ) (s c s₁ c₁ s₂ c₂ : List ℕ) (r₁ r₂ : Turn) → members.Put k x s c s₁ c₁ r₁ → members.Put k x s c s₂ c₂ r₂ → (r₁ ≡ r₂) × (s₁ ≡ s₂) × (c₁ ≡ c₂)
+  -- what is decided of a build by lengths: the sets' room, and the tables'
+  pub too-short : (n a b c d : ℕ) (r s : Bool) → Measured n a b c d r → Measured n a b c d s → r ≡ s
+  pub room-for : (up down ups downs : ℕ) (r s : Room) → RoomDue up down ups downs (room-said r) → RoomDue up down ups downs (room-said s) → r ≡ s
   -- blocks of a down entry
   pub occurrences : (down : List ℕ) (e x s t : ℕ) → Block down e x s → Block down e x t → s ≡ t
   pub block-size : (set n m : ℕ) → Size set n → Size set m → n ≡ m

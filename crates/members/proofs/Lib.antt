@@ -1,3 +1,4 @@
+pub mod Measuring
 pub mod Ranked
 pub mod Seeking
 pub mod Putting

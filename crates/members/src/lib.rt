@@ -3,9 +3,35 @@ ghost use mathlib.Core.Path.{_≡_};
 ghost use mathlib.Core.Bool.{true, false};
 ghost use Prim.Native.Nat.{_+_, _≤_, _<_};
 ghost use lib.ListN.{length};
+ghost use Rattle.members.specs.Room.{Measured};
 ghost use Rattle.members.specs.Sets.{Placed, Search, Sought, Tried, Put};
 
 const MAX_MEMBERS: usize = book::limits::MAX_MEMBERS as usize;
+
+// Refusal 9: whether a set slice has too few places for so many kinds, or a count slice too few counts.
+pub fn too_short(
+    kinds: usize,
+    plausible: usize,
+    counts: usize,
+    feasible: usize,
+    tally: usize,
+) -> bool
+    ensures { λ r. ⌜ Measured kinds plausible counts feasible tally r ⌝ }
+{
+    if plausible / MAX_MEMBERS < kinds {
+        return true;
+    }
+    if counts < kinds {
+        return true;
+    }
+    if feasible / MAX_MEMBERS < kinds {
+        return true;
+    }
+    if tally < kinds {
+        return true;
+    }
+    false
+}
 
 // What an attempt to add to the sets has come to.
 pub enum Turn {

@@ -6,3 +6,4 @@ pub mod Counting
 pub mod Bytes
 pub mod Finds
 pub mod Padded
+pub mod Measuring

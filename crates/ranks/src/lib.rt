@@ -4,6 +4,7 @@ ghost use Prim.Native.Nat.{suc, _+_, _*_, _^_, _<_};
 ghost use lib.ListN.{getD};
 ghost use Rattle.chains.specs.Limits.{max-kids};
 ghost use Rattle.ranks.specs.Entries.{choices, choice, byte-values, entry-bytes, none};
+ghost use Rattle.ranks.specs.Room.{room-said, RoomDue};
 ghost use Rattle.ranks.specs.Reads.{up-said, down-said, numbers, places, up-number, down-number, UpFinds, DownFinds, entry-at, label-at, child-rank-at};
 
 // The children of a production, and a down entry: a label for each occurrence, then a rank for each child.
@@ -131,4 +132,24 @@ pub fn started(r: Plausible) -> Feasible
     ensures { λ s. ⌜ s .0 ≡ r .0 ⌝ }
 {
     Feasible(r.0)
+}
+
+// Which table's entries exceed its slice, the up table's asked first; or neither's.
+pub enum Room {
+    Both,
+    UpExceeds,
+    DownExceeds,
+}
+
+// Refusals 12 and 13: so many entries held against slices of so many bytes.
+pub fn room_for(up: usize, down: usize, ups: u64, downs: u64) -> Room
+    ensures { λ r. ⌜ RoomDue up down ups downs (room-said r) ⌝ }
+{
+    if (up as u64) < ups {
+        return Room::UpExceeds;
+    }
+    if ((down / ENTRY) as u64) < downs {
+        return Room::DownExceeds;
+    }
+    Room::Both
 }

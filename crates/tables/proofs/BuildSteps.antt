@@ -15,7 +15,11 @@ use Rattle.tables.specs.Promise.{Lent, up-entries, down-entries, Written
 use Rattle.tables.specs.declared.Built.{Built}
 use Rattle.tables.specs.declared.Built.the-variants.{Accepted, Refused}
 use Rattle.tables.specs.Answer.{said, lent}
-use Rattle.tables.specs.Making.{Roomy, Ready, Passed, over-plausible, over-feasible, both-hold, Settled, up-exceeds, down-exceeds, Tabled, TabledAfter, Worked, refuses}
+use Rattle.members.specs.Room.{Roomy}
+use Rattle.ranks.specs.declared.Room.{Room}
+use Rattle.ranks.specs.declared.Room.the-variants as room
+use Rattle.ranks.specs.Room.{room-said, RoomDue}
+use Rattle.tables.specs.Making.{Ready, Passed, over-plausible, over-feasible, both-hold, Settled, Tabled, TabledAfter, Worked, refuses}
 use Rattle.tables.proofs.Sweeping.{holds-exact}
 use Rattle.tables.proofs.Exits.{refuse-plausible, refuse-feasible, tables-worked}
 use Rattle.tables.proofs.Building.{lents, refused-wiped}
@@ -45,27 +49,31 @@ passed-worked {b} {m} ready s c f d u w a (both-hold p q) t = record { due = tab
 
 -- ── the tables ──
 -- the u entries of the up table and the w entries of the down table, held against their slices
-pub up-fits : {u e n : ℕ} → u ≡ e → u ≤ n → e ≤ n
-up-fits e l = omega arith
+module _ (G : Grammar) (c d up down : List ℕ) {u w : ℕ} (r : Room) (m : RoomDue (length up) (length down) u w (room-said r)) (e : u ≡ up-entries G c)
+    (e′ : w ≡ down-entries G c d) where
+  due : RoomDue (length up) (length down) (up-entries G c) (down-entries G c d) (room-said r)
+  due = rw (← e, ← e′) m
 
-pub down-fits : {w e n : ℕ} → w ≡ e → w ≤ n / entry-bytes → e * entry-bytes ≤ n
-down-fits e l = omega arith
+  pub room-up : r ≡ room.Both → up-entries G c ≤ length up
+  room-up q = subst (λ x. RoomDue (length up) (length down) (up-entries G c) (down-entries G c d) (room-said x)) q due .0
 
-module _ (G : Grammar) (s c f d up down up′ down′ : List ℕ) {u : ℕ} (e : u ≡ up-entries G c) where
-  pub tabled-up : length up < u → Tabled G s c f d up down (refused 12 0) up′ down′
-  tabled-up l = record { due = up-exceeds (omega arith) }
+  pub room-down : r ≡ room.Both → down-entries G c d * entry-bytes ≤ length down
+  room-down q = subst (λ x. RoomDue (length up) (length down) (up-entries G c) (down-entries G c d) (room-said x)) q due .1
 
-  module _ {w : ℕ} (fits : u ≤ length up) (e′ : w ≡ down-entries G c d) where
-    pub tabled-down : length down / entry-bytes < w → Tabled G s c f d up down (refused 13 0) up′ down′
-    tabled-down l = record { due = down-exceeds (omega arith) (omega arith) }
+  module _ (s f up′ down′ : List ℕ) where
+    pub tabled-up : r ≡ room.UpExceeds → Tabled G s c f d up down (refused 12 0) up′ down′
+    tabled-up q = record { due = subst (λ x. RoomDue (length up) (length down) (up-entries G c) (down-entries G c d) (room-said x)) q due }
 
-    pub tabled : w ≤ length down / entry-bytes → UpTable G s c up′ × Written (up-entries G c) up up′
+    pub tabled-down : r ≡ room.DownExceeds → Tabled G s c f d up down (refused 13 0) up′ down′
+    tabled-down q = record { due = subst (λ x. RoomDue (length up) (length down) (up-entries G c) (down-entries G c d) (room-said x)) q due }
+
+    pub tabled : r ≡ room.Both → UpTable G s c up′ × Written (up-entries G c) up up′
         → DownTable G s c f d down′ × Written (down-entries G c d * entry-bytes) down down′ → Tabled G s c f d up down (accepted (u ∷ w ∷ [])) up′ down′
-    tabled fits′ t t′ = record {
+    tabled q t t′ = record {
       due = record {
         counted = rw (e, e′);
-        up-fits = up-fits e fits;
-        down-fits = down-fits e′ fits′;
+        up-fits = room-up q;
+        down-fits = room-down q;
         up = t .0;
         up-rest = t .1;
         down = t′ .0;

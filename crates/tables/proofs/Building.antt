@@ -19,7 +19,8 @@ use Rattle.bookcheck.proofs.Accepted.{accepted-book}
 use Rattle.tables.specs.declared.Built.the-variants.{Accepted, Refused}
 use Rattle.tables.specs.Promise.{Lent, Applies, of-book, short-slice, over-plausible, over-feasible, short-up, short-down, wiped, left-by, BuildDue}
 use Rattle.tables.specs.Answer.{said, lent}
-use Rattle.tables.specs.Making.{TooShort, Roomy, Measured, Lacking, Ready, WorkDue}
+use Rattle.members.specs.Room.{Roomy, Measured}
+use Rattle.tables.specs.Making.{Lacking, Ready, WorkDue}
 use Rattle.tables.proofs.Exits.{FirstDue, refuse-room}
 
 -- ── the memory ──
@@ -37,13 +38,6 @@ left-early n m h = rw (lt-ltb n 10 (omega arith)) refl
 
 left-late : (n : ℕ) (m : Lent) → 9 < n → wiped m ≡ left-by n m
 left-late n m h = rw (le-ltb n 10 (omega arith)) refl
-
--- ── room for the sets ──
-pub measured-short : {n a b c d : ℕ} → TooShort n a b c d → Measured n a b c d true
-measured-short h = record { short = λ e. h; roomy = λ e. let z : _≡_ {A = ℕ} 0 1 = cc in absurd (omega arith) }
-
-pub measured-roomy : {n a b c d : ℕ} → Roomy n a b c d → Measured n a b c d false
-measured-roomy r = record { short = λ e. let z : _≡_ {A = ℕ} 0 1 = cc in absurd (omega arith); roomy = λ e. r }
 
 -- ── the check of the book refuses ──
 -- a row of the build that is not later than one of the book is of the book

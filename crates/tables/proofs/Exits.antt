@@ -13,7 +13,9 @@ use Rattle.bookcheck.specs.Refusals as rows
 use Rattle.ranks.specs.Entries.{entry-bytes}
 use Rattle.tables.specs.Sets.{Over, Holds}
 use Rattle.tables.specs.Promise.{Lent, up-entries, down-entries, Counted, Applies, of-book, short-slice, over-plausible, over-feasible, short-up, short-down, Built}
-use Rattle.tables.specs.Making.{TooShort, Roomy, Lacking, Ready, Exceeds, up-exceeds, down-exceeds, Tables, TablesDue, WorkDue}
+use Rattle.members.specs.Room.{TooShort, Roomy}
+use Rattle.ranks.specs.Room.{Exceeds, up-exceeds, down-exceeds}
+use Rattle.tables.specs.Making.{Lacking, Ready, Tables, TablesDue, WorkDue}
 use Rattle.tables.specs.Answer.{lent}
 use Rattle.tables.proofs.Holds.{holds-counted, over-never, counted-once}
 use Rattle.tables.proofs.Entries.{up-entries-same, down-entries-same}
@@ -124,7 +126,7 @@ module _ {b : List ℕ} {m : Lent} (ready : Ready b m) where
           omega (arith, e)
 
       -- THEOREM: refusals 12 and 13
-      pub refuse-tables : {n place : ℕ} → Exceeds (grammar b) c d (length (m .up)) (length (m .down)) n place → FirstDue b m n place × (9 < n)
+      pub refuse-tables : {n place : ℕ} → Exceeds (length (m .up)) (length (m .down)) (up-entries (grammar b) c) (down-entries (grammar b) c d) n place → FirstDue b m n place × (9 < n)
       refuse-tables (up-exceeds l) = (
         first-due (ready .clean) 12 (short-up c plausible-counted l) record {
           room = λ h. enough (ready .room);

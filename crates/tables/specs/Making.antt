@@ -13,29 +13,15 @@ use Rattle.chains.specs.Feasible.{Feasible}
 use Rattle.book.specs.Format.{kinds, grammar}
 use Rattle.bookcheck.specs.Refusals as rows
 use Rattle.bookcheck.specs.Accepted.{Accepted}
+use Rattle.members.specs.Room.{TooShort, Roomy}
 use Rattle.ranks.specs.Entries.{entry-bytes}
+use Rattle.ranks.specs.Room.{Exceeds}
 use Rattle.tables.specs.Sets.{Over, Holds}
 use Rattle.tables.specs.Entries.{UpTable, DownTable}
 use Rattle.tables.specs.Promise.{Lent, up-entries, down-entries, Applies, Written, Built}
 use Rattle.tables.specs.Sweep.{Exact}
 
 -- ── room ──
--- by their lengths, sets or counts have too few places for n kinds
-abbrev pub TooShort : (n plausible plausible-counts feasible feasible-counts : ℕ) → Type 0
-TooShort n a b c d = (a < n * max-members) ⊎ (b < n) ⊎ (c < n * max-members) ⊎ (d < n)
-
--- or enough
-pub record Roomy (n a b c d : ℕ) : Type 0 where
-  pub plausible : n * max-members ≤ a
-  pub plausible-counts : n ≤ b
-  pub feasible : n * max-members ≤ c
-  pub feasible-counts : n ≤ d
-
--- r tells which
-pub record Measured (n a b c d : ℕ) (r : Bool) : Type 0 where
-  pub short : r ≡ true → TooShort n a b c d
-  pub roomy : r ≡ false → Roomy n a b c d
-
 -- the memory m has too few places for the sets of the book b
 abbrev pub Lacking : List ℕ → Lent → Type 0
 Lacking b m = TooShort (kinds b) (length (m .plausible)) (length (m .plausible-counts)) (length (m .feasible)) (length (m .feasible-counts))
@@ -58,12 +44,7 @@ pub record Settled (b s c f d : List ℕ) : Type 0 where
   pub feasible : Exact (kinds b) (Feasible (grammar b)) f d
 
 -- ── the tables ──
--- the entries exceed their slices, of the lengths u and w: the refusal's number and place
-pub data Exceeds (G : Grammar) (c d : List ℕ) (u w : ℕ) : ℕ → ℕ → Type 0 where
-  up-exceeds : u < up-entries G c → Exceeds G c d u w 12 0
-  down-exceeds : up-entries G c ≤ u → w < down-entries G c d * entry-bytes → Exceeds G c d u w 13 0
-
--- or both are written
+-- both are written
 pub record Tables (G : Grammar) (s c f d u w u′ w′ counts : List ℕ) : Type 0 where
   pub counted : counts ≡ up-entries G c ∷ down-entries G c d ∷ []
   pub up-fits : up-entries G c ≤ length u
@@ -75,7 +56,7 @@ pub record Tables (G : Grammar) (s c f d u w u′ w′ counts : List ℕ) : Type
 
 abbrev pub TablesDue : (G : Grammar) (s c f d u w : List ℕ) → Said → (u′ w′ : List ℕ) → Type 0
 TablesDue G s c f d u w (accepted counts) u′ w′ = Tables G s c f d u w u′ w′ counts
-TablesDue G s c f d u w (refused n p) u′ w′ = Exceeds G c d (length u) (length w) n p
+TablesDue G s c f d u w (refused n p) u′ w′ = Exceeds (length u) (length w) (up-entries G c) (down-entries G c d) n p
 
 pub record Tabled (G : Grammar) (s c f d u w : List ℕ) (a : Said) (u′ w′ : List ℕ) : Type 0 where
   pub due : TablesDue G s c f d u w a u′ w′

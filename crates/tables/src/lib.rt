@@ -40,7 +40,7 @@ pub fn build(
     match bookcheck::check_book(book) {
         bookcheck::Checked::Refused { number, place } => Built::Refused { number, place },
         bookcheck::Checked::Accepted { kinds, productions } => {
-            if making::too_short(
+            if members::too_short(
                 kinds as usize,
                 plausible.len(),
                 counts.len(),

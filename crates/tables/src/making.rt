@@ -1,41 +1,18 @@
 // The build of an accepted book: the two passes, then the two tables.
 ghost use mathlib.Core.Path.{_≡_};
-ghost use Prim.Native.Nat.{_*_, _<_};
 ghost use lib.ListN.{length};
 ghost use Rattle.book.specs.Format.{kinds, grammar};
 ghost use Rattle.bookcheck.specs.Accepted.{Accepted};
 ghost use Rattle.tables.specs.Answer.{said};
-ghost use Rattle.tables.specs.Making.{Roomy, Measured, Settled, Passed, TabledAfter, refuses};
+ghost use Rattle.members.specs.Room.{Roomy};
+ghost use Rattle.tables.specs.Making.{Settled, Passed, TabledAfter, refuses};
 use super::Built;
 use super::downward::downward;
 use super::fill::fill_down;
 use super::fill::fill_up;
-use super::sets::MAX_MEMBERS;
 use super::totals::totals;
 use super::upward::upward;
-
-// Bytes of a down entry.
-const ENTRY: u64 = ranks::ENTRY as u64;
-
-// Whether some set slice has too few places for n kinds, or some count slice.
-pub fn too_short(n: usize, plausible: usize, counts: usize, feasible: usize, tally: usize) -> bool
-    requires { ⌜ n < 65536 ⌝ }
-    ensures { λ r. ⌜ Measured n plausible counts feasible tally r ⌝ }
-{
-    if plausible < n * MAX_MEMBERS {
-        return true;
-    }
-    if counts < n {
-        return true;
-    }
-    if feasible < n * MAX_MEMBERS {
-        return true;
-    }
-    if tally < n {
-        return true;
-    }
-    false
-}
+use ranks::Room;
 
 // The two passes: 0, or the number of the refusal that one of them comes to. What a refusal leaves in the memory is not said.
 pub fn passes(
@@ -81,23 +58,23 @@ pub fn write_tables(
     let all = totals(book, &places, counts, tally);
     let ups = all.up;
     let downs = all.down;
-    if (up.len() as u64) < ups {
-        return Built::Refused {
+    match ranks::room_for(up.len(), down.len(), ups, downs) {
+        Room::UpExceeds => Built::Refused {
             number: 12,
             place: 0,
-        };
-    }
-    if (down.len() as u64) / ENTRY < downs {
-        return Built::Refused {
+        },
+        Room::DownExceeds => Built::Refused {
             number: 13,
             place: 0,
-        };
-    }
-    fill_up(book, &places, plausible, counts, feasible, tally, up);
-    fill_down(book, &places, plausible, counts, feasible, tally, down);
-    Built::Accepted {
-        up: ups,
-        down: downs,
+        },
+        Room::Both => {
+            fill_up(book, &places, plausible, counts, feasible, tally, up);
+            fill_down(book, &places, plausible, counts, feasible, tally, down);
+            Built::Accepted {
+                up: ups,
+                down: downs,
+            }
+        }
     }
 }
 
