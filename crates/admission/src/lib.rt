@@ -1,5 +1,7 @@
 // What is decided of a sheet call before a table is read: refusals 1 to 9 and 20 to 24, by book, sheet and lengths alone.
 // Nothing is borrowed here that could be written.
+#![tactic(auto)]
+
 ghost use Rattle.std.specs.Prelude.{[], ◌∷◌};
 ghost use Rattle.lists.specs.Refusals.{accepted};
 ghost use Rattle.bookcheck.specs.Search.{Tells};

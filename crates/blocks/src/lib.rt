@@ -1,4 +1,6 @@
 // The blocks of a down entry: the occurrences that carry one label, as a set of 64 bits, bit o for occurrence o.
+#![tactic(auto)]
+
 ghost use Rattle.std.specs.Prelude.{◌≡◌, ◌↔◌, ◌<◌};
 ghost use Rattle.blocks.specs.Blocks.{Block, Size, FirstIn};
 

@@ -2,6 +2,8 @@
 //
 // An accessor takes the book and, for a production, the place of its entry. It answers for every book and every place:
 // 0 where what is asked for is not there. Of an accepted book each is a field of the grammar (crates/bookcheck/proofs/Accepted.antt).
+#![tactic(auto)]
+
 pub mod limits;
 
 ghost use Rattle.std.specs.Prelude.{◌≡◌, ◌+◌, ◌*◌, ◌<◌, ◌≤◌, min, length, get_or};

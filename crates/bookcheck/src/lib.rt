@@ -1,4 +1,6 @@
 // The check of a grammar book: refusals 1 to 8.
+#![tactic(auto)]
+
 mod children;
 mod heads;
 mod layout;

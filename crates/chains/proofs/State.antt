@@ -72,6 +72,7 @@ module _ {X : Type 0} where
     where
       none : (x y : X) → SameLabel f x y ⊎ ⊥ → Eqv (SameLabel f) x y
       none x y (inl s) = fwd done s
+      none x y (inr x5) = elim x5 [ ]
   shown_joins (e ∷ es) f (hp, hq, h) x y =
       let g : X → ℕ = join_at_f f e.0 e.1 in
       let t = shown_joins es g (ends_map (λ x. f x < no_label) (λ x. g x < no_label) (swap_labelled f e.0 e.1 hp hq) es h) x y in

@@ -1,4 +1,6 @@
 // The program `groups`: a sheet and a book come in on standard input; ranks, down entries and group numbers go out.
+#![tactic(auto)]
+
 mod input;
 mod print;
 mod room;

@@ -1,4 +1,6 @@
 // The sets of groupings in lent memory: MAX_MEMBERS places for each kind, in rising order, and each kind's count beside it.
+#![tactic(auto)]
+
 ghost use Rattle.std.specs.Prelude.{◌≡◌, true, false, ◌+◌, ◌≤◌, ◌<◌, length};
 ghost use Rattle.members.specs.Room.{Measured};
 ghost use Rattle.members.specs.Sets.{Placed, Search, Sought, Tried, Put};

@@ -1,4 +1,6 @@
 // The sheet call: refusals 1 to 9 and 20 to 25, a rank of each kind and a down entry for every node, and a group number for every setting.
+#![tactic(auto)]
+
 mod choice;
 mod counts;
 mod downward;

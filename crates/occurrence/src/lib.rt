@@ -1,4 +1,6 @@
 // An occurrence of a setting in a production, as a byte: the slot above, 0 for the left kind and then the children in order, and the setting below.
+#![tactic(auto)]
+
 ghost use Rattle.std.specs.Prelude.{◌≡◌, ◌/◌, ◌%◌};
 
 // Its slot: the upper five bits.

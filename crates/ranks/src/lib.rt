@@ -1,4 +1,6 @@
 // Ranks in the plausible and in the feasible sets, and the reads of the two tables, which take and give only their own kind.
+#![tactic(auto)]
+
 ghost use Rattle.std.specs.Prelude.{◌≡◌, suc, ◌+◌, ◌*◌, ◌^◌, ◌<◌, get_or};
 ghost use Rattle.chains.specs.Limits.{max_kids};
 ghost use Rattle.ranks.specs.Entries.{choices, choice, byte_values, entry_bytes, none};

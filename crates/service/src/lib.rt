@@ -1,5 +1,7 @@
 // What the settings service, written in C, calls: the two checks, each with one number for an answer.
 // include/unchancyra.h has the contract in words.
+#![tactic(auto)]
+
 ghost use Rattle.std.specs.Prelude.{◌≡◌, ◌+◌, ◌*◌};
 ghost use Rattle.bookcheck.specs.Refusals.{BookDue};
 ghost use Rattle.sheet.specs.Refusals.{SheetDue};

@@ -1,5 +1,7 @@
 // Work on lent slices that no grammar decides: a number carried into a run of numbers, one label in place of another, and a run of bytes laid over
 // a part.
+#![tactic(auto)]
+
 ghost use Rattle.std.specs.Prelude.{◌≡◌, ◌+◌, ◌<◌, ◌≤◌, length};
 ghost use Rattle.lists.specs.Inserted.{Inserted};
 ghost use Rattle.lists.specs.Part.{place};

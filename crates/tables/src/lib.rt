@@ -1,4 +1,6 @@
 // The build: plausible and feasible sets, and the up and down tables over them.
+#![tactic(auto)]
+
 mod downward;
 mod entry;
 mod fill;

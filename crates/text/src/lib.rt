@@ -3,6 +3,8 @@
 // and goes out when it is full, and what is left is flushed at the end.
 //
 // What goes out no contract can say; what stands in the buffer afterwards it does.
+#![tactic(auto)]
+
 ghost use Rattle.std.specs.Prelude.{◌≡◌, ◌+◌, ◌<◌, length};
 ghost use Rattle.text.specs.Decimals.{decimals};
 ghost use Rattle.text.specs.Held.{Added, Appended};

@@ -1,5 +1,7 @@
 // The program `trial`: a run of requests comes in on standard input, each four bytes of length and a call with its arguments;
 // the answer to each goes out, with what lies in the memory that was lent to the call, and a line with a dot.
+#![tactic(auto)]
+
 mod build;
 mod calls;
 mod group;

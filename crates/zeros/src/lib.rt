@@ -1,4 +1,6 @@
 // Places of lent slices made zero: the first ones, or all of them after a refusal.
+#![tactic(auto)]
+
 ghost use Rattle.std.specs.Prelude.{◌≡◌, ◌≤◌, min, length};
 ghost use Rattle.lists.specs.Pick.{pick};
 ghost use Rattle.zeros.specs.Zeros.{cleared, Cleared, Wiped};
