@@ -1,0 +1,8 @@
+use borrow.Author.Tests.{lt-ltb, le-ltb}
+use Rattle.book.proofs.next.Goals as goal
+
+pub returns-then-book-at : goal.returns-then-book-at
+returns-then-book-at c = rw (le-ltb _ _ c.if-book-at.true)
+
+pub returns : goal.returns
+returns c = rw (lt-ltb _ _ c.if-book-at.false) c.step.ensures.0
