@@ -16,7 +16,7 @@ use sheet::SheetChecked;
 const PLACES: usize = 3;
 
 // What the admission answers: the numbers of nodes and settings, or the first refusal that applies.
-#[derive(Drop)]
+#[derive(Clone, Copy)]
 pub enum Admission {
     Admitted { nodes: u16, settings: u16 },
     Refused { number: u8, place: u16 },

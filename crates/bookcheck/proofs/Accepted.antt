@@ -25,6 +25,7 @@ use Rattle.bookcheck.proofs.Tying.{tie_member, member_place}
 
 -- what is tied is a member of the list of ties, and the other way round
 tied_member : (ts : List Tie) (o o' : Occ) → Named ts o o' → Memᴰ (o, o') ts
+tied_member [] o o' x' = elim x' [ ]
 tied_member (t ∷ ts) o o' (inl (e, e')) = mathlib.Core.List.Memᴰ.head (Σ_path e e')
 tied_member (t ∷ ts) o o' (inr n) = mathlib.Core.List.Memᴰ.tail (tied_member ts o o' n)
 

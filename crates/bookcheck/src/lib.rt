@@ -17,7 +17,7 @@ use book::{field, kinds, limits, productions, start};
 use walk::Row;
 
 // What the check of a book answers.
-#[derive(Drop)]
+#[derive(Clone, Copy)]
 pub enum Checked {
     Accepted { kinds: u16, productions: u16 },
     Refused { number: u8, place: u16 },

@@ -8,7 +8,7 @@ use super::ties::bad_ties;
 use book::{first_entry, next};
 
 // Which refusal is sought: 6, over left kinds and children, or 7, over pairs.
-#[derive(Drop)]
+#[derive(Clone, Copy)]
 pub enum Row {
     Kids,
     Ties,

@@ -13,7 +13,7 @@ const MOST_BOOK: usize = 2 * MAX_KINDS as usize
 // The largest input: two bytes of length, a sheet and a book.
 pub const MOST: usize = 2 + MAX_NODES + MOST_BOOK;
 
-#[derive(Drop)]
+#[derive(Clone, Copy)]
 pub enum Parts {
     Sheet { end: usize },
     Refused,

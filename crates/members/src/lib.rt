@@ -33,7 +33,7 @@ pub fn too_short(
 }
 
 // What an attempt to add to the sets has come to.
-#[derive(Drop)]
+#[derive(Clone, Copy)]
 pub enum Turn {
     Still,
     Added,

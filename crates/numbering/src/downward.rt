@@ -15,7 +15,7 @@ use super::upward::Reads;
 use ranks::DownRead;
 
 // What is read at a node: its down entry; or an entry past its slice, or a child's rank not below its count.
-#[derive(Drop)]
+#[derive(Clone, Copy)]
 pub enum DownNode {
     Entry(u64),
     Bad,

@@ -13,7 +13,7 @@ use super::limits::{NODES, PRODUCTIONS};
 use ranks::{KIDS, Plausible};
 
 // The ranks of the first children, and where the last of them ends.
-#[derive(Drop)]
+#[derive(Clone, Copy)]
 pub struct Kin {
     pub ranks: [Plausible; KIDS],
     pub end: usize,

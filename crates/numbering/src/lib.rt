@@ -21,7 +21,7 @@ use admission::Admission;
 use settling::settle;
 
 // What the sheet call answers: the numbers of nodes, settings and groups, or the first refusal that applies.
-#[derive(Drop)]
+#[derive(Clone, Copy)]
 pub enum Grouping {
     Accepted {
         nodes: u16,

@@ -12,7 +12,7 @@ use super::starts::up_starts;
 use ranks::UpRead;
 
 // Whether every read is good, or the node where the first bad one is.
-#[derive(Drop)]
+#[derive(Clone, Copy)]
 pub enum Reads {
     All,
     Bad(u16),

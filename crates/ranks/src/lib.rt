@@ -17,19 +17,19 @@ pub const ENTRY: usize = LABELS + KIDS;
 // The absence of a label or a rank.
 pub const NONE: u8 = 255;
 
-#[derive(Drop)]
+#[derive(Clone, Copy)]
 pub struct Plausible(pub u8);
 
-#[derive(Drop)]
+#[derive(Clone, Copy)]
 pub struct Feasible(pub u8);
 
-#[derive(Drop)]
+#[derive(Clone, Copy)]
 pub enum UpRead {
     Rank(Plausible),
     Past,
 }
 
-#[derive(Drop)]
+#[derive(Clone, Copy)]
 pub enum DownRead {
     At(u64),
     Past,
@@ -139,7 +139,7 @@ pub fn started(r: Plausible) -> Feasible
 }
 
 // Which table's entries exceed its slice, the up table's asked first; or neither's.
-#[derive(Drop)]
+#[derive(Clone, Copy)]
 pub enum Room {
     Both,
     UpExceeds,

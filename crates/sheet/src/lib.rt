@@ -14,7 +14,7 @@ ghost use Rattle.sheet.specs.Walk.{Finished};
 use reader::{Walk, subtree};
 
 // What the check of a sheet answers.
-#[derive(Drop)]
+#[derive(Clone, Copy)]
 pub enum SheetChecked {
     Accepted { nodes: u16, settings: u16 },
     Refused { number: u8, place: u16 },

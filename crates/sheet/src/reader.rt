@@ -7,14 +7,14 @@ ghost use Rattle.sheet.specs.Walk.{Position, Standing, Looked, Walked};
 use super::{span, wide, word};
 
 // What stands where a node is due: the place of its production's entry, or the refusal.
-#[derive(Drop)]
+#[derive(Clone, Copy)]
 pub enum Found {
     Entry(usize),
     Unfit { number: u8, place: u16 },
 }
 
 // Where a subtree ends: the position after it, with the settings of all nodes up to there; or the refusal.
-#[derive(Drop)]
+#[derive(Clone, Copy)]
 pub enum Walk {
     Next { at: usize, settings: u16 },
     Stop { number: u8, place: u16 },

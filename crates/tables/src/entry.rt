@@ -12,7 +12,7 @@ use super::shape::Shape;
 use ranks::{ENTRY, Feasible, Plausible};
 
 // Which table an entry belongs to.
-#[derive(Drop)]
+#[derive(Clone, Copy)]
 pub enum Table {
     Up,
     Down,

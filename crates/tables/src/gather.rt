@@ -14,7 +14,7 @@ use members::Turn;
 
 // A visit of a production: the slots whose codes are chosen, in turn, the last one first, each with its number of settings and of codes; and the
 // slot that the results are seen on, with its number of settings and its kind.
-#[derive(Drop)]
+#[derive(Clone, Copy)]
 pub struct Visit {
     pub slots: [u8; SLOTS],
     pub widths: [u8; SLOTS],

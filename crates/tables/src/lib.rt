@@ -19,7 +19,7 @@ ghost use Rattle.tables.specs.Promise.{BuildDue};
 ghost use Rattle.tables.specs.Answer.{said, lent};
 
 // What a build answers: the numbers of up and down entries, or the first refusal that applies.
-#[derive(Drop)]
+#[derive(Clone, Copy)]
 pub enum Built {
     Accepted { up: u64, down: u64 },
     Refused { number: u8, place: u16 },

@@ -5,7 +5,7 @@ ghost use Rattle.tables.specs.Shape.{ShapeAt};
 
 use super::labels::{SLOTS, width};
 
-#[derive(Drop)]
+#[derive(Clone, Copy)]
 pub struct Shape {
     pub arity: u8,
     pub kinds: [u8; SLOTS],

@@ -31,7 +31,7 @@ fn choices_down(v: Shape, many: u64, tally: &[u8]) -> u64
 }
 
 // The numbers of up and down entries of all productions.
-#[derive(Drop)]
+#[derive(Clone, Copy)]
 pub struct Sums {
     pub up: u64,
     pub down: u64,

@@ -5,7 +5,7 @@ ghost use Rattle.trial.specs.Requests.{Follows, Exactly, Ended};
 use crate::numbers::{four, least};
 
 // Where an argument stands. It is not whole where it, or one before it, is malformed or over its room.
-#[derive(Drop)]
+#[derive(Clone, Copy)]
 pub struct Part {
     pub whole: bool,
     pub from: usize,

@@ -1,0 +1,11 @@
+use Prim.Native.Nat.{◌-◌}
+use Rattle.bookcheck.specs.Refusals.{BadKind}
+use Rattle.book.specs.Format.{grammar}
+use Rattle.bookcheck.proofs.Answers.{Seeking}
+use Rattle.bookcheck.proofs.masks.first_bad_kind.Given as goal
+
+abbrev pub invariant-loop-k : goal.invariant-loop-k
+invariant-loop-k l = Seeking (BadKind (grammar l.book)) l.n l.k
+
+abbrev pub decreases-loop-k : goal.decreases-loop-k
+decreases-loop-k l = l.n - l.k
