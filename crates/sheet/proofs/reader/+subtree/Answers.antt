@@ -1,5 +1,4 @@
 -- `subtree` meets its contract, with the levels left as the number that falls at each call of itself.
--- the sixth parameter, `levels`
 use mathlib.Core.Path.{◌∙◌}
 use Prim.Native.Nat.{◌-◌}
 use native.Mathlib.Omega.{arith}
@@ -7,26 +6,26 @@ use Rattle.sheet.proofs.Walk.{children_begin, children_next, children_stop, chil
 use Rattle.sheet.proofs.reader.+subtree.Goals as goal
 
 pub node_at-requires : goal.node_at-requires
-node_at-requires t c = (c.requires.1.0.position, c.requires.1.1)
+node_at-requires t c = (c.requires.0.position, c.requires.1)
 
 pub overflow_add-next : goal.overflow_add-next
 overflow_add-next t c = omega (arith, (fit_of c.node_at.ensures c.in-Entry.is).there)
 
 pub overflow_add-sum : goal.overflow_add-sum
 overflow_add-sum t c =
-    let h = c.requires.1.0 in
+    let h = c.requires.0 in
     omega (arith, h.low, h.position.few_nodes, h.position.within, c.word.ensures.1)
 
 pub loop-j-init : goal.loop-j-init
 loop-j-init t c =
     let f = fit_of c.node_at.ensures c.in-Entry.is in
-    children_begin c.requires.1.0 f c.word.result c.arity-kids.ensures (c.word.ensures.0 ∙ c.settings.ensures)
+    children_begin c.requires.0 f c.word.result c.arity-kids.ensures (c.word.ensures.0 ∙ c.settings.ensures)
 
 pub overflow_sub-levels : goal.overflow_sub-levels
 overflow_sub-levels t c = omega (arith, c.loop-j.invariant.fit.levels_left)
 
 pub subtree-requires : goal.subtree-requires
-subtree-requires t c = (omega (arith, c.loop-j.invariant.fit.levels_left), (c.loop-j.invariant.standing, c.requires.1.1))
+subtree-requires t c = (omega (arith, c.loop-j.invariant.fit.levels_left), (c.loop-j.invariant.standing, c.requires.1))
 
 pub returns-in-Stop : goal.returns-in-Stop
 returns-in-Stop t c = children_stop c.loop-j.invariant c.loop-j-test.true c.kid-due.ensures c.subtree.ensures c.in-Stop.is

@@ -15,18 +15,18 @@ bounds-places-p c = omega (arith, told_prods c.requires.0.book, c.requires.0.boo
 
 pub returns-then-left-kind : goal.returns-then-left-kind
 returns-then-left-kind c =
-    let p = c.wide in
+    let p = c.wide-p in
     let at = indexed c.requires.0 c.requires.1 p.ensures.0 (omega arith) in
     found_kind c.requires.0 _ _ (omega arith) (omega arith) at c.unfit-then-left-kind.ensures (λ e. c.if-left-kind.true (c.left.ensures ∙ e))
 
 pub returns-then-levels-eq0 : goal.returns-then-levels-eq0
 returns-then-levels-eq0 c =
-    let p = c.wide in
+    let p = c.wide-p in
     let at = indexed c.requires.0 c.requires.1 p.ensures.0 (omega arith) in
     found_deep c.requires.0 _ _ (omega arith) (omega arith) at c.unfit-then-levels-eq0.ensures (sym c.left.ensures ∙ c.if-left-kind.false) (omega arith)
 
 pub returns : goal.returns
 returns c =
-    let p = c.wide in
+    let p = c.wide-p in
     let at = indexed c.requires.0 c.requires.1 p.ensures.0 (omega arith) in
     found_fit c.requires.0 _ _ (omega arith) (omega arith) at (sym c.left.ensures ∙ c.if-left-kind.false) c.if-levels-eq0.false
