@@ -1,0 +1,20 @@
+-- The ranks of all children. Assumes nothing.
+use Prim.Native.Nat.{◌-◌}
+use native.Mathlib.Omega.{arith}
+use Rattle.tables.proofs.FillEntry.{no_ranks, more_ranks, ranks_done}
+use Rattle.tables.proofs.entry.put_ranks.Goals as goal
+
+pub loop-j-init : goal.loop-j-init
+loop-j-init c = (omega arith, no_ranks _ _ _ _ _ _)
+
+pub feasible_rank-r-requires : goal.feasible_rank-r-requires
+feasible_rank-r-requires c = (c.requires.0, λ l. c.requires.1 _ l)
+
+pub bounds-out-at : goal.bounds-out-at
+bounds-out-at c = omega (arith, c.loop-j.invariant.1.long)
+
+pub loop-j-preserved : goal.loop-j-preserved
+loop-j-preserved c = (omega arith, more_ranks c.loop-j.invariant.1 (omega arith) c.feasible_rank-r.ensures)
+
+pub returns : goal.returns
+returns c = ranks_done c.loop-j.invariant.1 (omega arith)

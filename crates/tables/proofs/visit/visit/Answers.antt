@@ -1,0 +1,12 @@
+-- A visit made. Assumes nothing.
+use Rattle.tables.proofs.Visiting.{visit_barren, visit_request, visit_done}
+use Rattle.tables.proofs.visit.visit.Goals as goal
+
+pub returns-then-barren : goal.returns-then-barren
+returns-then-barren c = visit_barren _ _ _ _ _ _ (c.barren.ensures c.if-barren.true)
+
+pub gather-requires : goal.gather-requires
+gather-requires c = visit_request _ _ _ _ c.base.ensures c.requires
+
+pub returns : goal.returns
+returns c = visit_done _ _ c.args.book.now c.args.at c.base.ensures c.gather.ensures
