@@ -6,6 +6,7 @@ use Prim.Native.Nat.{ℕ, zero, suc, ◌+◌, ◌*◌, ◌≤◌, ◌<◌}
 use native.Mathlib.Omega.{arith}
 use lib.ListN.{length, get_or, take, drop, length-append, length-map, length-drop, take-append-drop}
 use lib.Seq.{length-take-le, get_or-append_seam}
+use Rattle.lists.specs.Pick.{pick}
 use Rattle.lists.proofs.Carries.{Carries, carries_first, carries_rest, carries_front, carries_back, carries_at, carries_snoc}
 use Rattle.chains.specs.Grammar.{Occ, Grammar, width}
 use Rattle.chains.specs.Tree.{Bush, nil, grow, size, flat, Kinded, Inst, Sub}
@@ -14,7 +15,7 @@ use Rattle.chains.specs.Numbering as rule
 use Rattle.chains.proofs.Nodes.{sub-one, flat_length}
 use Rattle.sheet.specs.Reading.{all_settings}
 use Rattle.sheet.proofs.Reading.{settings_next}
-use Rattle.numbering.specs.Walk.{Tables, Held, entry_of, given, places, numbered, unused, kid_labels, held, own_held, Numbered, walk, root_entry, root_labels, started, group_numbers}
+use Rattle.numbering.specs.Walk.{holder, holds, Tables, Held, entry_of, given, places, numbered, unused, kid_labels, held, own_held, Numbered, walk, root_entry, root_labels, started, group_numbers}
 use Rattle.numbering.specs.Places.{down_entry_of, number_of}
 use Rattle.numbering.proofs.Rule.{Keeps, numbered_rule, held_map, keeps_map}
 use Rattle.numbering.proofs.Told.{parts}
@@ -23,7 +24,7 @@ use Rattle.numbering.proofs.Listed.{root_settings, in_slot_long, kid_settings, o
 pub numbered_long : (hs : List Held) (n : ℕ) (xs : List ℕ) → length (numbered hs n xs) ≡ length xs
 unfolding numbered
 numbered_long hs n [] = refl
-numbered_long hs n (x ∷ xs) = ap suc (numbered_long _ _ xs)
+numbered_long hs n (x ∷ xs) = ap suc (numbered_long (hs ++ (x, holder x hs n) ∷ []) (pick (holds x hs) n (suc n)) xs)
 
 settings_append : (G : Grammar) (l m : List ℕ) → all_settings G (l ++ m) ≡ all_settings G l + all_settings G m
 unfolding all_settings
