@@ -20,10 +20,10 @@ use tables::Built;
 fn main() {
     // A byte more than is allowed, so that too much shows.
     let mut bytes = [0u8; input::MOST + 1];
-    let n = io::read_full(libc::STDIN_FILENO, &mut bytes);
+    let n = io::read_full(text::STDIN, &mut bytes);
     let mut out = [0u8; room::TEXT];
     let held = answer(&bytes[..n], &mut out);
-    text::flush(libc::STDOUT_FILENO, &out, held);
+    text::flush(text::STDOUT, &out, held);
 }
 
 // The text that is due for these bytes, at the front of the buffer.

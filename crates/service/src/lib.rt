@@ -16,8 +16,7 @@ fn code(number: u8, place: u16) -> u64
     (number as u64) * 65536 + (place as u64)
 }
 
-#[unsafe(no_mangle)]
-pub extern "C" fn unchancyra_check_book(book: &[u8]) -> u64
+pub fn unchancyra_check_book(book: &[u8]) -> u64
     ensures { Spoken (BookDue book.now) result }
 {
     match bookcheck::check_book(book) {
@@ -29,8 +28,7 @@ pub extern "C" fn unchancyra_check_book(book: &[u8]) -> u64
     }
 }
 
-#[unsafe(no_mangle)]
-pub extern "C" fn unchancyra_check_sheet(book: &[u8], sheet: &[u8]) -> u64
+pub fn unchancyra_check_sheet(book: &[u8], sheet: &[u8]) -> u64
     ensures { Spoken (SheetDue book.now sheet.now) result }
 {
     match sheet::check_sheet(book, sheet) {

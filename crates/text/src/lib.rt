@@ -9,6 +9,11 @@ ghost use Rattle.std.specs.Prelude.{◌≡◌, ◌+◌, ◌<◌, length};
 ghost use Rattle.text.specs.Decimals.{decimals};
 ghost use Rattle.text.specs.Held.{Added, Appended};
 
+// The descriptors of a program's standard input and output.
+pub const STDIN: i32 = 0;
+
+pub const STDOUT: i32 = 1;
+
 // Digits of the largest number.
 const MOST_DIGITS: usize = 20;
 

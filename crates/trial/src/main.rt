@@ -12,7 +12,7 @@ mod room;
 
 ghost use Rattle.std.specs.Prelude.{◌≤◌};
 
-use libc::STDIN_FILENO;
+use text::STDIN;
 
 fn main() {
     let mut request = [0u8; room::REQUEST];
@@ -33,7 +33,7 @@ fn run(request: &mut [u8]) {
 // Reads a request and answers it. False where the run has ended: with a request that is cut off, or before the next one.
 fn next(request: &mut [u8]) -> bool {
     let mut head = [0u8; 4];
-    let got = io::read_full(STDIN_FILENO, &mut head);
+    let got = io::read_full(STDIN, &mut head);
     if got == 0 {
         return false;
     }
@@ -47,7 +47,7 @@ fn next(request: &mut [u8]) -> bool {
         malformed();
         return true;
     }
-    if io::read_full(STDIN_FILENO, &mut request[0..length]) < length {
+    if io::read_full(STDIN, &mut request[0..length]) < length {
         malformed();
         return false;
     }
@@ -72,9 +72,9 @@ fn forget(left: usize) -> usize
 {
     let mut bytes = [0u8; 4096];
     if left < 4096 {
-        return io::read_full(STDIN_FILENO, &mut bytes[0..left]);
+        return io::read_full(STDIN, &mut bytes[0..left]);
     }
-    io::read_full(STDIN_FILENO, &mut bytes)
+    io::read_full(STDIN, &mut bytes)
 }
 
 fn malformed() {

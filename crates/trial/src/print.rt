@@ -1,33 +1,33 @@
 // What the program prints: an answer's line, a line for each lent slice, a dot.
-use libc::STDOUT_FILENO;
+use text::STDOUT;
 
 // Bytes that gather before they are written.
 pub const ROOM: usize = 65536;
 
 fn number(out: &mut [u8], held: usize, n: u64) -> usize {
-    text::decimal(STDOUT_FILENO, out, held, n)
+    text::decimal(STDOUT, out, held, n)
 }
 
 // A number after a blank.
 fn next_number(out: &mut [u8], held: usize, n: u64) -> usize {
-    let h = text::word(STDOUT_FILENO, out, held, b" ");
+    let h = text::word(STDOUT, out, held, b" ");
     number(out, h, n)
 }
 
 fn line_end(out: &mut [u8], held: usize) -> usize {
-    text::word(STDOUT_FILENO, out, held, b"\n")
+    text::word(STDOUT, out, held, b"\n")
 }
 
 // The dot, and everything goes out.
 pub fn close(out: &mut [u8], held: usize) {
-    let h = text::word(STDOUT_FILENO, out, held, b".\n");
-    text::flush(STDOUT_FILENO, out, h);
+    let h = text::word(STDOUT, out, held, b".\n");
+    text::flush(STDOUT, out, h);
 }
 
 // A word, and numbers behind it.
 fn said(out: &mut [u8], w: &[u8], numbers: &[u64]) -> usize {
-    let h = text::word(STDOUT_FILENO, out, 0, w);
-    let h = text::word(STDOUT_FILENO, out, h, b" ");
+    let h = text::word(STDOUT, out, 0, w);
+    let h = text::word(STDOUT, out, h, b" ");
     line64(out, h, numbers)
 }
 
