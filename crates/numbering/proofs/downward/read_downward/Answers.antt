@@ -20,10 +20,10 @@ pub bounds-sheet-i : goal.bounds-sheet-i
 bounds-sheet-i c = c.loop-i-test.true
 
 pub overflow_cast-p : goal.overflow_cast-p
-overflow_cast-p c = omega (arith, c.shared_slice_known-in-loop-i-1.given c.loop-i.i)
+overflow_cast-p c = omega (arith, c.type_inv.sheet c.loop-i.i)
 
 pub offset_bounds-starts-p : goal.offset_bounds-starts-p
-offset_bounds-starts-p c = omega (arith, c.shared_slice_known-in-loop-i-1.given c.loop-i.i)
+offset_bounds-starts-p c = omega (arith, c.type_inv.sheet c.loop-i.i)
 
 pub bounds-starts-p : goal.bounds-starts-p
 bounds-starts-p c =

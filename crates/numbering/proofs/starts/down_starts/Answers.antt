@@ -38,7 +38,7 @@ pub bounds-feasible_counts-left : goal.bounds-feasible_counts-left
 bounds-feasible_counts-left c = omega (arith, left_low c.requires.0 (omega (arith, c.loop-p.invariant.all)) refl c.left-left.ensures, c.requires.2)
 
 pub overflow_cast-next : goal.overflow_cast-next
-overflow_cast-next c = omega (arith, c.shared_slice_known-in-loop-p-1.given c.left-left.result)
+overflow_cast-next c = omega (arith, c.type_inv.feasible_counts c.left-left.result)
 
 pub kid_counts-requires : goal.kid_counts-requires
 kid_counts-requires c = (c.requires.0, omega (arith, c.loop-p.invariant.all), c.requires.1)
@@ -47,10 +47,10 @@ pub choices_of-requires : goal.choices_of-requires
 choices_of-requires c = tt
 
 pub overflow_mul-next : goal.overflow_mul-next
-overflow_mul-next c = omega (arith, product_small (c.shared_slice_known-in-loop-p-1.given c.left-left.result) c.choices_of.ensures.1)
+overflow_mul-next c = omega (arith, product_small (c.type_inv.feasible_counts c.left-left.result) c.choices_of.ensures.1)
 
 pub overflow_add-next : goal.overflow_add-next
-overflow_add-next c = omega (arith, c.loop-p.invariant.sums.small, c.loop-p.invariant.sums.few, product_small (c.shared_slice_known-in-loop-p-1.given c.left-left.result) c.choices_of.ensures.1)
+overflow_add-next c = omega (arith, c.loop-p.invariant.sums.small, c.loop-p.invariant.sums.few, product_small (c.type_inv.feasible_counts c.left-left.result) c.choices_of.ensures.1)
 
 pub overflow_add-p : goal.overflow_add-p
 overflow_add-p c = prod_after (below c.loop-p-test.true c.loop-p.invariant.sums.few)
@@ -61,7 +61,7 @@ loop-p-smaller c = less_left c.loop-p-test.true
 pub loop-p-preserved : goal.loop-p-preserved
 loop-p-preserved c =
     down_summing_turn c.loop-p.invariant c.loop-p-test.true c.kid_counts.ensures c.choices_of.ensures.0 c.choices_of.ensures.1
-    (left_is c.requires.0 (omega (arith, c.loop-p.invariant.all)) refl c.left-left.ensures) refl (c.shared_slice_known-in-loop-p-1.given c.left-left.result)
+    (left_is c.requires.0 (omega (arith, c.loop-p.invariant.all)) refl c.left-left.ensures) refl (c.type_inv.feasible_counts c.left-left.result)
 
 pub returns : goal.returns
 returns c = down_summing_done c.loop-p.invariant c.loop-p-test.false

@@ -16,10 +16,10 @@ bounds-tally-left c =
     omega (arith, g.here)
 
 pub overflow_cast-mark-2 : goal.overflow_cast-mark-2
-overflow_cast-mark-2 c = omega (arith, c.slice_known-4-1.given c.left.result)
+overflow_cast-mark-2 c = omega (arith, c.type_inv.tally c.left.result)
 
 pub overflow_add-mark : goal.overflow_add-mark
-overflow_add-mark c = omega (arith, c.slice_known-4-1.given c.left.result)
+overflow_add-mark c = omega (arith, c.type_inv.tally c.left.result)
 
 pub offset_bounds-marks-p : goal.offset_bounds-marks-p
 offset_bounds-marks-p c = omega (arith, c.requires.0.few_prods, c.requires.1)

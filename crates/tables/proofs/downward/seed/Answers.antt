@@ -9,7 +9,7 @@ use native.Mathlib.Omega.{arith}
 use Rattle.tables.proofs.downward.seed.Goals as goal
 
 pub overflow_cast-n : goal.overflow_cast-n
-overflow_cast-n c = omega (arith, c.shared_slice_known-4-1.given c.start-k.result)
+overflow_cast-n c = omega (arith, c.type_inv.counts c.start-k.result)
 
 pub copy_members-requires : goal.copy_members-requires
 copy_members-requires c =

@@ -15,17 +15,17 @@ pub bounds-counts-kid : goal.bounds-counts-kid
 bounds-counts-kid c = rw c.kid.ensures (c.requires.1 c.loop-i.i (omega arith))
 
 pub overflow_cast-sum-in-loop-i : goal.overflow_cast-sum-in-loop-i
-overflow_cast-sum-in-loop-i c = omega (arith, c.shared_slice_known-in-loop-i-1.given c.kid.result)
+overflow_cast-sum-in-loop-i c = omega (arith, c.type_inv.counts c.kid.result)
 
 pub overflow_add-sum : goal.overflow_add-sum
-overflow_add-sum c = omega (arith, c.shared_slice_known-in-loop-i-1.given c.kid.result)
+overflow_add-sum c = omega (arith, c.type_inv.counts c.kid.result)
 
 pub loop-i-preserved : goal.loop-i-preserved
 loop-i-preserved c =
     let o = c.loop-i in
     let a = c.args in
     let e : get_or a.counts.now c.kid.result 0 ≡ get_or a.counts.now (kid_at a.book.now a.at o.i) 0 = rw c.kid.ensures in
-    (omega arith, omega (arith, total_more a.counts.now (kid_at a.book.now a.at) o.i), omega (arith, c.shared_slice_known-in-loop-i-1.given c.kid.result))
+    (omega arith, omega (arith, total_more a.counts.now (kid_at a.book.now a.at) o.i), omega (arith, c.type_inv.counts c.kid.result))
 
 pub returns : goal.returns
 returns c =

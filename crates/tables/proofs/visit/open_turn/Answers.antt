@@ -5,7 +5,7 @@ use native.Mathlib.Omega.{arith}
 use Rattle.tables.proofs.visit.open_turn.Goals as goal
 
 pub overflow_cast-n : goal.overflow_cast-n
-overflow_cast-n c = omega (arith, c.shared_slice_known-4-1.given c.kind_in-kind.result)
+overflow_cast-n c = omega (arith, c.type_inv.counts c.kind_in-kind.result)
 
 pub copy_members-requires : goal.copy_members-requires
 copy_members-requires c =
