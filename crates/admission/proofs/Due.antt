@@ -1,5 +1,5 @@
 -- From what is found to what is due by the admission's table.
-use mathlib.Core.Path.{◌≡◌, refl, subst}
+use mathlib.Core.Path.{refl, subst}
 use mathlib.Core.Logic.{◌⊎◌, inl, inr}
 use mathlib.Core.List.{List, [], ◌∷◌}
 use Prim.Native.Nat.{ℕ, ◌<◌}

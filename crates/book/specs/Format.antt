@@ -1,5 +1,5 @@
 -- The grammar book: kind entries, production entries, and a trailer of 12 bytes that is read first and points back.
-use Rattle.std.specs.Prelude.{◌≡◌, Bool, List, [], ◌∷◌, ℕ, zero, suc, ◌+◌, ◌-◌, ◌*◌, ◌/◌, ◌%◌, ◌^◌, ◌≤◌, ◌<◌, eqb, length, get_or}
+use Rattle.std.specs.Prelude.{◌≡◌, Bool, List, [], ◌∷◌, ℕ, zero, suc, ◌+◌, ◌-◌, ◌*◌, ◌/◌, ◌%◌, ◌^◌, ◌≤◌, eqb, length, get_or}
 use Rattle.lists.specs.Part.{part}
 use Rattle.chains.specs.Grammar.{Occ, Tie, Grammar}
 

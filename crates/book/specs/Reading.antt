@@ -4,7 +4,7 @@ use Rattle.std.specs.Prelude.{◌≡◌, List, ℕ, ◌+◌, ◌-◌, ◌*◌, �
 use Rattle.lists.specs.Pick.{pick}
 use Rattle.chains.specs.Limits.{max_prods}
 use Rattle.chains.specs.Grammar.{Tie}
-use Rattle.book.specs.Format.{trailer_bytes, field, left_at, arity_at, pair_place, next_at, entry, occ}
+use Rattle.book.specs.Format.{trailer_bytes, field, left_at, pair_place, next_at, entry, occ}
 
 -- the i-th field of the trailer, where there is a trailer
 abbrev pub told : List ℕ → ℕ → ℕ

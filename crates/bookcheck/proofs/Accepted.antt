@@ -9,9 +9,9 @@ use native.Mathlib.Omega.{arith}
 use lib.ListN.{length, get_or}
 use borrow.Author.Tests.{lt-ltb}
 use Rattle.lists.specs.Refusals.{accepted}
-use Rattle.chains.specs.Limits.{max_settings, max_kids, max_kinds, max_prods}
+use Rattle.chains.specs.Limits.{max_settings, max_kids}
 use Rattle.chains.specs.Grammar.{Occ, Tie, slots, Exists, Target, Named, Tied, Lawful}
-use Rattle.book.specs.Format.{trailer_bytes, edition, kinds, prods, start, trailer, kind_at, Bit, arity_at, pairs_at, next_at, entry, occ, Laid, grammar}
+use Rattle.book.specs.Format.{trailer_bytes, edition, kinds, prods, start, trailer, kind_at, Bit, arity_at, pairs_at, next_at, entry, occ, grammar}
 use Rattle.book.specs.Reading.{told, settings_of, mask_of, kid_at, to_at, from_at, pair_at, kind_in, following, Index}
 use Rattle.bookcheck.specs.Refusals.{OutOfRange, Applies, other_edition, out_of_range, not_laid, bad_kind, bad_kids, bad_ties, headless, BookDue}
 use Rattle.bookcheck.specs.Accepted.{Accepted}

@@ -1,5 +1,5 @@
 -- An accepted book: what its check's acceptance says of it, and what the calls on it may lean on.
-use Rattle.std.specs.Prelude.{◌≡◌, List, ℕ, ◌≤◌}
+use Rattle.std.specs.Prelude.{List, ℕ, ◌≤◌}
 use Rattle.chains.specs.Limits.{max_kinds, max_prods}
 use Rattle.chains.specs.Grammar.{Lawful}
 use Rattle.book.specs.Format.{Known, kinds, prods, Laid, grammar}

@@ -1,9 +1,9 @@
 -- Refusals 1 to 8 of a grammar book: the rows of the paper's table, in its words.
-use Rattle.std.specs.Prelude.{◌≡◌, ◌⊎◌, true, false, ℕ, ◌≤◌, ◌<◌, length, get_or}
+use Rattle.std.specs.Prelude.{◌≡◌, ◌⊎◌, true, ℕ, ◌≤◌, ◌<◌, length, get_or}
 use mathlib.Core.List.{List, [], ◌∷◌, Memᴰ}
-use Rattle.lists.specs.Refusals.{Said, accepted, refused, Due}
+use Rattle.lists.specs.Refusals.{Said, Due}
 use Rattle.chains.specs.Limits.{max_kinds, max_prods, max_settings, max_kids}
-use Rattle.chains.specs.Grammar.{Occ, Tie, Grammar, Exists, Target, Rises}
+use Rattle.chains.specs.Grammar.{Tie, Grammar, Exists, Target, Rises}
 use Rattle.book.specs.Format.{trailer_bytes, Known, kinds, prods, start, Laid, grammar}
 
 -- N, P or the start is outside its range

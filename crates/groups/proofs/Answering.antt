@@ -17,7 +17,7 @@ use Rattle.numbering.specs.Answer.{said}
 use Rattle.numbering.proofs.Trees.{tree_size, node_at}
 use Rattle.ranks.specs.Entries.{entry_bytes}
 use Rattle.numbering.specs.declared.Grouping.{Grouping}
-use Rattle.numbering.specs.declared.Grouping.TheVariants.{Accepted, Refused}
+use Rattle.numbering.specs.declared.Grouping.TheVariants.{Accepted}
 use Rattle.tables.specs.Promise as tables
 use Rattle.tables.specs.Answer as tables_answer
 use Rattle.tables.specs.declared.Built.{Built}

@@ -1,5 +1,5 @@
 -- A tree sheet: production numbers in preorder, read from left to right against what is due.
-use Rattle.std.specs.Prelude.{◌≡◌, List, [], ◌∷◌, ◌++◌, ℕ, zero, suc, ◌+◌, ◌≤◌, ◌<◌, length, get_or}
+use Rattle.std.specs.Prelude.{◌≡◌, List, [], ◌∷◌, ◌++◌, ℕ, suc, ◌+◌, ◌≤◌, ◌<◌, length, get_or}
 use Rattle.chains.specs.Limits.{max_levels}
 use Rattle.chains.specs.Grammar.{Grammar, Heads}
 

@@ -3,7 +3,6 @@ use Rattle.std.specs.Prelude.{◌≡◌, ◌⊎◌, List, [], ◌∷◌, ℕ, �
 use Rattle.lists.specs.Pick.{pick}
 use Rattle.lists.specs.Refusals.{Said, Due}
 use Rattle.chains.specs.Limits.{max_nodes, max_levels}
-use Rattle.chains.specs.Grammar.{Grammar}
 use Rattle.book.specs.Format.{grammar, prods}
 use Rattle.bookcheck.specs.Refusals as book
 use Rattle.sheet.specs.Reading.{Node, Read, all_settings}

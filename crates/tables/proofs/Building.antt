@@ -6,7 +6,6 @@ use mathlib.Core.List.{List, [], ◌∷◌}
 use Prim.Native.Nat.{ℕ, ◌≤◌, ◌<◌}
 use native.Mathlib.Omega.{arith}
 use borrow.Author.Tests.{lt-ltb, le-ltb}
-use lib.Dec.{ltb}
 use lib.ListN.{length}
 use Rattle.lists.specs.Refusals.{accepted, refused, Sooner, First}
 use Rattle.book.specs.Format.{kinds}
@@ -16,7 +15,7 @@ use Rattle.bookcheck.specs.declared.Checked.{Checked}
 use Rattle.bookcheck.specs.declared.Checked.TheVariants as checks
 use Rattle.bookcheck.specs.Answer as checked
 use Rattle.bookcheck.proofs.Accepted.{accepted_book}
-use Rattle.tables.specs.declared.Built.TheVariants.{Accepted, Refused}
+use Rattle.tables.specs.declared.Built.TheVariants.{Refused}
 use Rattle.tables.specs.Promise.{Lent, Applies, of_book, short_slice, over_plausible, over_feasible, short_up, short_down, wiped, left_by, BuildDue}
 use Rattle.tables.specs.Answer.{said, lent}
 use Rattle.members.specs.Room.{Roomy, Measured}

@@ -1,5 +1,5 @@
 -- What stands in the entries of the up and the down table.
-use Rattle.std.specs.Prelude.{◌≡◌, ◌↔◌, List, [], ◌∷◌, ℕ, zero, suc, ◌+◌, ◌*◌, ◌≤◌, ◌<◌, eqb, length, get_or, take}
+use Rattle.std.specs.Prelude.{◌≡◌, ◌↔◌, List, [], ◌∷◌, ℕ, suc, ◌+◌, ◌*◌, ◌≤◌, ◌<◌, eqb, length, get_or, take}
 use Rattle.lists.specs.Pick.{pick}
 use Rattle.lists.specs.Part.{part}
 use Rattle.chains.specs.Limits.{max_kids}

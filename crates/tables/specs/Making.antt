@@ -1,7 +1,6 @@
 -- The build as it goes on, from an accepted book. No promise of the library cites this page.
-use Rattle.std.specs.Prelude.{◌≡◌, ◌⊎◌, Bool, true, false, List, [], ◌∷◌, ℕ, ◌*◌, ◌≤◌, ◌<◌, length}
+use Rattle.std.specs.Prelude.{◌≡◌, Bool, true, false, List, [], ◌∷◌, ℕ, ◌*◌, ◌≤◌, ◌<◌, length}
 use Rattle.lists.specs.Refusals.{Said, accepted, refused, First}
-use Rattle.chains.specs.Limits.{max_members}
 use Rattle.chains.specs.Grammar.{Grammar}
 use Rattle.chains.specs.Plausible.{Plausible}
 use Rattle.chains.specs.Feasible.{Feasible}

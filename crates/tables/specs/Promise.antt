@@ -1,5 +1,5 @@
 -- What the build promises: refusals 1 to 13, and all lent memory.
-use Rattle.std.specs.Prelude.{◌≡◌, ◌⊎◌, ◌↔◌, Bool, true, false, ℕ, ◌+◌, ◌*◌, ◌≤◌, ◌<◌, ltb, length, get_or, drop, replicate}
+use Rattle.std.specs.Prelude.{◌≡◌, ◌⊎◌, ◌↔◌, ℕ, ◌*◌, ◌≤◌, ◌<◌, ltb, length, get_or, drop, replicate}
 use mathlib.Core.List.{List, [], ◌∷◌, Memᴰ}
 use Rattle.lists.specs.Pick.{pick}
 use Rattle.lists.specs.Rising.{Rising}

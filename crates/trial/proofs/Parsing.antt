@@ -1,6 +1,6 @@
 -- An argument is found, or there is none: for each test of its reader the reason.
-use Prim.Native.Nat.{ℕ, zero, ◌+◌, ◌*◌, ◌/◌, ◌%◌, ◌-◌, ◌≤◌, ◌<◌, min}
-use mathlib.Core.Path.{◌≡◌, refl, sym, ap, ◌∙◌}
+use Prim.Native.Nat.{ℕ, ◌+◌, ◌/◌, ◌%◌, ◌-◌, ◌≤◌, ◌<◌, min}
+use mathlib.Core.Path.{◌≡◌, sym, ap, ◌∙◌}
 use mathlib.Core.Bool.{true, false, true≢false}
 use mathlib.Core.List.{List}
 use native.Mathlib.Omega.{arith}
@@ -8,7 +8,7 @@ use native.Mathlib.Nat.{mul-mod_left, mul-div_left, div-add-mod', add-zero, min-
 use lib.ListN.{length, take, drop}
 use Rattle.trial.specs.declared.request.Part.{Part}
 use Rattle.trial.specs.Numbers.{four}
-use Rattle.trial.specs.Requests.{Argument, Follows, next, none}
+use Rattle.trial.specs.Requests.{Follows, next, none}
 
 module _ {request : List ℕ} {before : Part} {width room : ℕ} {p : Part} where
   pub after_none : p.whole ≡ false → before.whole ≡ false → Follows request before width room p

@@ -1,6 +1,5 @@
 -- A bit is put in for each occurrence, from the first on.
 use mathlib.Core.Path.{sym, ◌∙◌}
-use Prim.Native.Nat.{◌-◌}
 use native.Mathlib.Omega.{arith}
 use Rattle.blocks.proofs.BitSets.{marked_none, marked_more}
 use Rattle.blocks.proofs.Carried.{block_empty, block_full}

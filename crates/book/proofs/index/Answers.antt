@@ -1,4 +1,3 @@
-use Prim.Native.Nat.{◌-◌}
 use Rattle.book.proofs.Places.{walk_begins, walk_goes, walk_ends}
 use Rattle.book.proofs.index.Goals as goal
 

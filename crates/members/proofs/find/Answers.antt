@@ -1,5 +1,4 @@
 -- The search meets its contract. Assumes nothing.
-use Prim.Native.Nat.{◌-◌}
 use native.Mathlib.Omega.{arith}
 use Rattle.members.proofs.Seeking.{seek_begun, seek_turn, seek_hit, seek_none}
 use Rattle.members.proofs.find.Goals as goal

@@ -1,6 +1,6 @@
 -- The number grows by a digit with each child: its count is the weight of those before, its rank the new digit.
 use mathlib.Core.Path.{◌∙◌}
-use Prim.Native.Nat.{◌-◌, ◌<◌}
+use Prim.Native.Nat.{◌<◌}
 use native.Mathlib.Omega.{arith}
 use lib.ListN.{length}
 use Rattle.chains.specs.Limits.{max_kids}

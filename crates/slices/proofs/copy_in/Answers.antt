@@ -1,5 +1,4 @@
 -- A run of bytes copied over a part. Assumes nothing.
-use Prim.Native.Nat.{◌-◌}
 use native.Mathlib.Omega.{arith}
 use Rattle.lists.proofs.Copied.{copy_begun}
 use Rattle.slices.proofs.Laid.{copy_next, copied}

@@ -1,6 +1,5 @@
 -- A label changed everywhere. Assumes nothing.
 use mathlib.Core.Path.{refl, ◌∙◌}
-use Prim.Native.Nat.{◌-◌}
 use native.Mathlib.Omega.{arith}
 use lib.ListN.{length-set}
 use Rattle.lists.proofs.MapTo.{map_to, map_to_more, map_to_all}

@@ -1,4 +1,4 @@
-use Prim.Native.Nat.{◌-◌, ◌≤◌}
+use Prim.Native.Nat.{◌≤◌}
 use Rattle.trial.proofs.skip.Given as goal
 
 abbrev pub invariant-loop-left : goal.invariant-loop-left

@@ -1,5 +1,4 @@
 -- The first places cleared: the contract is met. Assumes nothing.
-use Prim.Native.Nat.{◌-◌}
 use native.Mathlib.Omega.{arith}
 use Rattle.lists.proofs.Filled.{fill_begun, fill_turn, fill_done}
 use Rattle.zeros.proofs.zero32.Goals as goal

@@ -1,5 +1,4 @@
 use mathlib.Core.Path.{◌∙◌}
-use Prim.Native.Nat.{◌-◌}
 use native.Mathlib.Omega.{arith}
 use Rattle.bookcheck.proofs.Kin.{alien_left, many_kids, alien_kid, start_kid, kin_begins, kin_grows, kin_fair}
 use Rattle.bookcheck.proofs.Answers.{tells_yes, tells_no}

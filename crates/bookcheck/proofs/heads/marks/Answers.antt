@@ -1,5 +1,4 @@
 use mathlib.Core.Path.{◌∙◌}
-use Prim.Native.Nat.{◌-◌}
 use native.Mathlib.Omega.{arith}
 use Rattle.bookcheck.proofs.Marking.{marking_begins, left_low, marking_goes, marking_ends}
 use Rattle.bookcheck.proofs.heads.marks.Goals as goal

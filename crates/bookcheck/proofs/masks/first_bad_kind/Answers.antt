@@ -1,4 +1,3 @@
-use Prim.Native.Nat.{◌-◌}
 use Rattle.bookcheck.proofs.Answers.{seek_begins, seek_on, seek_found, seek_ends}
 use Rattle.bookcheck.proofs.masks.first_bad_kind.Goals as goal
 

@@ -1,4 +1,3 @@
-use Prim.Native.Nat.{◌-◌}
 use native.Mathlib.Omega.{arith}
 use Rattle.bookcheck.proofs.Answers.{tells_yes, tells_no}
 use Rattle.bookcheck.proofs.Tying.{ties_begin, ties_go, unfair, falling, ties_fair}

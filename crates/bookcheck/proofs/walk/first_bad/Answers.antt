@@ -1,4 +1,3 @@
-use Prim.Native.Nat.{◌-◌}
 use Rattle.bookcheck.proofs.Passing.{passing_begins, stands, passing_found, passing_on, passing_ends}
 use Rattle.bookcheck.proofs.walk.first_bad.Goals as goal
 

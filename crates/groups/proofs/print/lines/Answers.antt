@@ -1,4 +1,3 @@
-use Prim.Native.Nat.{◌-◌}
 use native.Mathlib.Omega.{arith}
 use Rattle.sheet.proofs.Accepted.{book_accepted, byte_low}
 use Rattle.groups.proofs.Printing.{listing_begun, own_end, listing_turn, listing_done}

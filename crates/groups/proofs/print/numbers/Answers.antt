@@ -1,4 +1,3 @@
-use Prim.Native.Nat.{◌-◌}
 use Rattle.groups.proofs.Printing.{numbering_begun, numbering_turn, numbering_done}
 use Rattle.groups.proofs.print.numbers.Goals as goal
 

@@ -1,5 +1,4 @@
 -- The first of the counts that is over the limit ends the search.
-use Prim.Native.Nat.{◌-◌}
 use native.Mathlib.Omega.{arith}
 use Rattle.bookcheck.proofs.Answers.{tells_yes}
 use Rattle.numbering.proofs.Counted.{low_none, low_next, low_all}

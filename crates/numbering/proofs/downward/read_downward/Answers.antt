@@ -1,5 +1,4 @@
 use mathlib.Core.Path.{refl}
-use Prim.Native.Nat.{◌-◌}
 use native.Mathlib.Omega.{arith}
 use Rattle.numbering.proofs.Words.{less_left, place_after, place_eight, below}
 use Rattle.numbering.proofs.Trees.{node_at}

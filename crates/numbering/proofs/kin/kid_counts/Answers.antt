@@ -1,5 +1,4 @@
 use mathlib.Core.Path.{refl}
-use Prim.Native.Nat.{◌-◌}
 use native.Mathlib.Omega.{arith}
 use Rattle.numbering.proofs.Words.{wide, wide_below, next_byte, less_left}
 use Rattle.numbering.proofs.Children.{opened, kid_low, counting_none, counting_turn, counting_done}

@@ -1,5 +1,4 @@
 use mathlib.Core.Path.{refl}
-use Prim.Native.Nat.{◌-◌}
 use native.Mathlib.Omega.{arith}
 use Rattle.numbering.proofs.Words.{wide_below, next_byte, less_left, place_after, place_twice, place_wide}
 use Rattle.numbering.proofs.Children.{end_low, ranking_none, ranking_inside, ranking_turn, ranking_done}

@@ -1,4 +1,3 @@
-use Prim.Native.Nat.{◌-◌}
 use native.Mathlib.Omega.{arith}
 use Rattle.numbering.proofs.Words.{less_left, place_after, place_twice, below}
 use Rattle.numbering.proofs.Trees.{node_at}

@@ -1,4 +1,3 @@
-use Prim.Native.Nat.{◌-◌}
 use native.Mathlib.Omega.{arith}
 use Rattle.numbering.proofs.Holders.{held_again, held_first}
 use Rattle.numbering.proofs.numbers.hold.Goals as goal

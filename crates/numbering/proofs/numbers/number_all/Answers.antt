@@ -1,5 +1,4 @@
 use mathlib.Core.Path.{refl}
-use Prim.Native.Nat.{◌-◌}
 use native.Mathlib.Omega.{arith}
 use Rattle.book.specs.Format.{grammar}
 use Rattle.numbering.proofs.Words.{less_left, place_after, place_eight, below, first_numbers}

@@ -1,6 +1,5 @@
 -- A node's own settings hold their labels; then its children, one after another.
 use mathlib.Core.Path.{refl, ◌∙◌}
-use Prim.Native.Nat.{◌-◌}
 use native.Mathlib.Omega.{arith}
 use Rattle.numbering.proofs.Words.{next_byte, next_most, less_left, place_after, place_twice, place_wide, prod_wide, prod_eight, below}
 use Rattle.numbering.proofs.Children.{opened, end_low}

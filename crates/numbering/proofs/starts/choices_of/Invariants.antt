@@ -1,4 +1,3 @@
-use Prim.Native.Nat.{◌-◌}
 use Rattle.chains.specs.Limits.{max_kids}
 use Rattle.numbering.proofs.Products.{Multiplying}
 use Rattle.numbering.proofs.starts.choices_of.Given as goal

@@ -1,5 +1,4 @@
 use mathlib.Core.Path.{◌∙◌}
-use Prim.Native.Nat.{◌-◌}
 use native.Mathlib.Omega.{arith}
 use Rattle.bookcheck.proofs.Accepted.{told_prods}
 use Rattle.numbering.proofs.Words.{less_left, prod_after, prod_eight, below}

@@ -1,6 +1,5 @@
 -- `subtree` meets its contract, with the levels left as the number that falls at each call of itself.
 use mathlib.Core.Path.{◌∙◌}
-use Prim.Native.Nat.{◌-◌}
 use native.Mathlib.Omega.{arith}
 use Rattle.sheet.proofs.Walk.{children_begin, children_next, children_stop, children_end, fit_of, unfit_of}
 use Rattle.sheet.proofs.reader.+subtree.Goals as goal

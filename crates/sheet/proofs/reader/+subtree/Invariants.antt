@@ -1,5 +1,5 @@
 -- `subtree` meets its contract, with the levels left as the number that falls at each call of itself.
-use Prim.Native.Nat.{ℕ, ◌-◌}
+use Prim.Native.Nat.{◌-◌}
 use Rattle.sheet.proofs.Walk.{Children}
 use Rattle.sheet.proofs.reader.+subtree.Given as goal
 

@@ -1,6 +1,6 @@
 -- All slots in turn. Assumes nothing.
 use mathlib.Core.Path.{◌≡◌, refl}
-use Prim.Native.Nat.{suc, ◌-◌}
+use Prim.Native.Nat.{suc}
 use Rattle.book.specs.Format.{arity_at}
 use Rattle.tables.specs.Downward.{slot_down}
 use Rattle.tables.proofs.Opening.{opening_more}

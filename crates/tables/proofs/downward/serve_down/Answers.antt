@@ -1,6 +1,6 @@
 -- A visit for each child. Assumes nothing.
 use mathlib.Core.Path.{◌≡◌, ap, ◌∙◌}
-use Prim.Native.Nat.{◌<◌, ◌-◌}
+use Prim.Native.Nat.{◌<◌}
 use lib.ListN.{length}
 use Rattle.book.specs.Format.{arity_at, grammar}
 use Rattle.bookcheck.proofs.Accepted.{arity_read}

@@ -1,6 +1,6 @@
 -- A sweep of the downward pass. Assumes nothing.
 use mathlib.Core.Path.{◌≡◌, ◌∙◌}
-use Prim.Native.Nat.{◌<◌, ◌-◌}
+use Prim.Native.Nat.{◌<◌}
 use Rattle.book.specs.Format.{prods}
 use Rattle.bookcheck.proofs.Accepted.{told_prods, place_read}
 use Rattle.tables.specs.Downward.{DownMarks, DownSwept}

@@ -1,5 +1,4 @@
 -- The ranks of all children. Assumes nothing.
-use Prim.Native.Nat.{◌-◌}
 use native.Mathlib.Omega.{arith}
 use Rattle.tables.proofs.FillEntry.{no_ranks, more_ranks, ranks_done}
 use Rattle.tables.proofs.entry.put_ranks.Goals as goal

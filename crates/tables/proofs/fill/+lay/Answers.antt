@@ -1,5 +1,4 @@
 -- `lay` meets its contract, with the children left as the number that falls at each call of itself. Assumes nothing.
-use Prim.Native.Nat.{ℕ, ◌-◌}
 use native.Mathlib.Omega.{arith}
 use Rattle.tables.proofs.Shapes.{first_slot}
 use Rattle.tables.proofs.FillChoices.{slot_counted, leaf_asks, leaf_laid, lay_begun, lay_placed, lay_asks, lay_next, lay_done}

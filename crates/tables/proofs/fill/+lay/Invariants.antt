@@ -1,5 +1,5 @@
 -- `lay` meets its contract, with the children left as the number that falls at each call of itself. Assumes nothing.
-use Prim.Native.Nat.{ℕ, suc, ◌-◌}
+use Prim.Native.Nat.{suc, ◌-◌}
 use Rattle.ranks.specs.Entries.{choices}
 use Rattle.tables.specs.Shape.{kinds_from}
 use Rattle.tables.specs.Fill.{entry_size, Choices}

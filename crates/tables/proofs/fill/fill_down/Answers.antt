@@ -1,6 +1,5 @@
 -- The down table. Assumes nothing.
 use mathlib.Core.Path.{refl}
-use Prim.Native.Nat.{◌-◌}
 use native.Mathlib.Omega.{arith}
 use Rattle.tables.proofs.FillDown.{down_begun, down_below, down_room, down_next, down_done}
 use Rattle.tables.proofs.fill.fill_down.Goals as goal

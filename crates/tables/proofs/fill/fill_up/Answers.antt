@@ -1,6 +1,5 @@
 -- The up table. Assumes nothing.
 use mathlib.Core.Path.{refl}
-use Prim.Native.Nat.{◌-◌}
 use native.Mathlib.Omega.{arith}
 use Rattle.tables.proofs.FillUp.{up_begun, up_below, up_room, up_next, up_done}
 use Rattle.tables.proofs.fill.fill_up.Goals as goal

@@ -1,5 +1,4 @@
 -- The down entries of a state, for each member of the left kind. Assumes nothing.
-use Prim.Native.Nat.{◌-◌}
 use native.Mathlib.Omega.{arith}
 use Rattle.tables.proofs.FillChoices.{feed_begun, feed_placed, feed_asks, feed_next, feed_done}
 use Rattle.tables.proofs.fill.lay_down.Goals as goal

@@ -1,5 +1,5 @@
 -- Gathering meets its contract, by recursion on the turns left. Assumes nothing.
-use Prim.Native.Nat.{ℕ, ◌-◌}
+use Prim.Native.Nat.{◌-◌}
 use Rattle.tables.proofs.Gathering.{Looping}
 use Rattle.tables.proofs.gather.+gather.Given as goal
 

@@ -1,5 +1,4 @@
 -- The base grouping of a production. Assumes nothing.
-use Prim.Native.Nat.{◌-◌}
 use Rattle.tables.proofs.StateLoops.{base_begun, base_low, base_turn, base_done}
 use Rattle.tables.proofs.labels.base.Goals as goal
 

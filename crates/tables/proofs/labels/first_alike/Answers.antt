@@ -1,6 +1,5 @@
 -- The search for the first setting of a label. Assumes nothing.
 use mathlib.Core.Path.{◌≡◌, sym, ◌∙◌}
-use Prim.Native.Nat.{◌-◌}
 use native.Mathlib.Omega.{arith}
 use Rattle.lists.proofs.Sought.{free_none}
 use Rattle.chains.specs.Grouping.{label}

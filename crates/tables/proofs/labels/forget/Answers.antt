@@ -1,5 +1,4 @@
 -- A slot dropped. Assumes nothing.
-use Prim.Native.Nat.{◌-◌}
 use native.Mathlib.Omega.{arith}
 use Rattle.tables.proofs.StateLoops.{empty_begun, empty_turn, empty_done}
 use Rattle.tables.proofs.labels.forget.Goals as goal

@@ -1,6 +1,4 @@
 -- Every occurrence by itself. Assumes nothing.
-use Prim.Native.Nat.{◌-◌}
-use Rattle.tables.specs.State.{own}
 use Rattle.tables.proofs.StateLoops.{lay_begun, lay_turn, lay_done}
 use Rattle.tables.proofs.labels.lay.Goals as goal
 

@@ -1,5 +1,4 @@
 -- A state held against a part of a list. Assumes nothing.
-use Prim.Native.Nat.{◌-◌}
 use native.Mathlib.Omega.{arith}
 use Rattle.tables.proofs.StateLoops.{compare_begun, compare_turn, compare_done, compare_apart}
 use Rattle.tables.proofs.labels.same_state.Goals as goal

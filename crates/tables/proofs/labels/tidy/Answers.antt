@@ -1,5 +1,4 @@
 -- A state tidied. Assumes nothing.
-use Prim.Native.Nat.{◌-◌}
 use native.Mathlib.Omega.{arith}
 use Rattle.tables.proofs.StateNumbers.{tidy_begun, tidy_turn, tidy_done}
 use Rattle.tables.proofs.labels.tidy.Goals as goal

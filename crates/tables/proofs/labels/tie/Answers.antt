@@ -1,5 +1,4 @@
 -- A slot tied as a code groups it. Assumes nothing.
-use Prim.Native.Nat.{◌-◌}
 use Rattle.tables.proofs.StateLoops.{tie_begun, tie_turn, tie_done}
 use Rattle.tables.proofs.labels.tie.Goals as goal
 

@@ -1,5 +1,4 @@
 -- The code of a slot. Assumes nothing.
-use Prim.Native.Nat.{◌-◌}
 use native.Mathlib.Omega.{arith}
 use Rattle.tables.proofs.StateNumbers.{view_begun, slot_low, slot_turn, slot_small, slot_done}
 use Rattle.tables.proofs.labels.view.Goals as goal

@@ -1,5 +1,4 @@
 -- The copying of a kind's members meets its contract. Assumes nothing.
-use Prim.Native.Nat.{◌-◌}
 use Rattle.lists.proofs.Copied.{copy_begun, copy_turn, copy_done}
 use Rattle.tables.proofs.sets.copy_members.Goals as goal
 

@@ -1,6 +1,5 @@
 -- The shape of a production, slot by slot. Assumes nothing.
 use borrow.Author.Rules.{rules}
-use Prim.Native.Nat.{◌-◌}
 use native.Mathlib.Omega.{arith}
 use Rattle.tables.proofs.Shapes.{shape_begun, shape_turn}
 use Rattle.tables.proofs.shape.shape_of.Goals as goal

@@ -1,6 +1,6 @@
 -- The entries of all productions, of both tables. Assumes nothing.
 use mathlib.Core.Path.{refl}
-use Prim.Native.Nat.{◌-◌, ◌<◌}
+use Prim.Native.Nat.{◌<◌}
 use native.Mathlib.Omega.{arith}
 use Rattle.book.specs.Format.{prods, grammar}
 use Rattle.ranks.specs.Entries.{up_start, down_start}

@@ -1,7 +1,7 @@
 -- The children in turn. Assumes nothing.
 use Rattle.book.specs.Format.{arity_at}
 use mathlib.Core.Path.{refl, ◌≡◌}
-use Prim.Native.Nat.{suc, ◌+◌, ◌-◌}
+use Prim.Native.Nat.{suc, ◌+◌}
 use Rattle.tables.proofs.Opening.{opening_more}
 use native.Mathlib.Omega.{arith}
 use Rattle.tables.proofs.upward.prepare_up.Goals as goal

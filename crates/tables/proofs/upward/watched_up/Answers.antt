@@ -2,7 +2,7 @@
 use lib.ListN.{get_or}
 use Rattle.book.specs.Format.{arity_at}
 use mathlib.Core.Path.{◌≡◌, sym, ap}
-use Prim.Native.Nat.{suc, ◌-◌}
+use Prim.Native.Nat.{suc}
 use Rattle.book.specs.Reading.{kid_at}
 use Rattle.tables.proofs.Sweeping.{total_none, total_more}
 use native.Mathlib.Omega.{arith}

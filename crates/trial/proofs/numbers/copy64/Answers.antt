@@ -1,7 +1,5 @@
-use Prim.Native.Nat.{◌-◌}
 use native.Mathlib.Omega.{arith}
 use native.Mathlib.Nat.{div-mul-le_self}
-use Rattle.trial.specs.Numbers.{eight}
 use Rattle.trial.proofs.Copying.{started, stored, ended}
 use Rattle.trial.proofs.numbers.copy64.Goals as goal
 

@@ -1,4 +1,3 @@
-use Prim.Native.Nat.{◌-◌}
 use native.Mathlib.Omega.{arith}
 use Rattle.trial.proofs.Copying.{started, stored_byte, ended}
 use Rattle.trial.proofs.numbers.copy8.Goals as goal
