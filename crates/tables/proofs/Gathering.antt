@@ -163,6 +163,6 @@ module _ (v : Visit) (l : List ℕ) where
         loop_remembered z =
             remember_stored (h.seen z) (suc j) (omega (arith, q.ready.few)) u q.standing.state.long (all_in (turned_done t z now_round.turned))
 
-        -- whatever was added, also where some set is over_full
+        -- whatever was added, also where some set is over-full
         pub loop_end : {kept' : List ℕ} → kept' ≡ remembered kept (suc j) u → Reply v l (suc j) u s₀ c₀ kept' s c t
         loop_end e = record { turned = λ n b f. round_done (h.round n b f) all_in; seen = λ z. rw e (loop_remembered z) }

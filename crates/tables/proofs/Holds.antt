@@ -105,7 +105,7 @@ module _ {n : ℕ} {P : ℕ → ℕ → Type 0} {s₀ c₀ : List ℕ} (there : 
     pub holds_once : (s ≡ s') × (c ≡ c')
     holds_once = (ext_get_or 0 s s' (t.long ∙ sym t'.long) (λ i h. same_place i), ext_get_or 0 c c' (t.long_c ∙ sym t'.long_c) (λ k h. same_count k))
 
-  -- THEOREM: what is held is not over_full
+  -- THEOREM: what is held is not over-full
   pub over_never : {s c : List ℕ} → Holds n P s₀ c₀ s c → Over n P → ⊥
   over_never {s} {c} t o =
       let k = o.kind in

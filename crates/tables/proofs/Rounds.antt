@@ -1,4 +1,4 @@
--- Attempts one after another: each brings something about, which lasts, until all are made or some set is over_full.
+-- Attempts one after another: each brings something about, which lasts, until all are made or some set is over-full.
 use mathlib.Core.Path.{◌≡◌, refl, sym, ◌∙◌, subst}
 use mathlib.Core.List.{List}
 use Prim.Native.Nat.{ℕ, ◌+◌, ◌-◌, ◌≤◌, ◌<◌}
@@ -13,13 +13,13 @@ use Rattle.members.specs.declared.Turn.{Turn}
 use Rattle.members.specs.declared.Turn.TheVariants.{Still, Added, Full}
 use Rattle.tables.proofs.Memory.{kept_refl, kept_trans, turned_map, Lasts}
 
--- where no set is over_full, what a turn was to bring about holds
+-- where no set is over-full, what a turn was to bring about holds
 pub turned_done : {n : ℕ} {P : ℕ → ℕ → Type 0} {D : Type 0} {s c s' c' : List ℕ} (r : Turn) → (r ≡ Full → ⊥) → Turned n P D s c s' c' r → D
 turned_done Still h u = u.case.2
 turned_done Added h u = u.case.1
 turned_done Full h u = absurd (h refl)
 
--- p attempts of `end` from s₀, c₀ have come to t: what each was to bring about holds; or some set is over_full, and there is none to follow
+-- p attempts of `end` from s₀, c₀ have come to t: what each was to bring about holds; or some set is over-full, and there is none to follow
 pub record Round (n : ℕ) (P : ℕ → ℕ → Type 0) (D : List ℕ → List ℕ → ℕ → Type 0) (end : ℕ) (s₀ c₀ s c : List ℕ) (t : Turn) (p : ℕ) : Type 0 where
   pub turned : Turned n P ((i : ℕ) → i < p → D s c i) s₀ c₀ s c t
   pub stop : t ≡ Full → end ≤ p

@@ -30,7 +30,7 @@ pub record Kept (n : ℕ) (s c s' c' : List ℕ) : Type 0 where
   pub less : room c' ≤ room c
   pub stays : (k x : ℕ) → k < n → Has s c k x → Has s' c' k x
 
--- what a step of a pass leaves: D, with nothing added or with something; or some set would be over_full
+-- what a step of a pass leaves: D, with nothing added or with something; or some set would be over-full
 pub record Turned (n : ℕ) (P : ℕ → ℕ → Type 0) (D : Type 0) (s c s' c' : List ℕ) (r : Turn) : Type 0 where
   pub fine : Fine n P s' c'
   pub kept : Kept n s c s' c'

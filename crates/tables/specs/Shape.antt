@@ -41,7 +41,7 @@ pub record Opened (b places : List ℕ) : Type 0 where
   pub book : Accepted b
   pub index : Index b places
 
--- every kind of the book has its count, of a set that is not over_full
+-- every kind of the book has its count, of a set that is not over-full
 pub record Small (b c : List ℕ) : Type 0 where
   pub here : kinds b ≤ length c
   pub few : (k : ℕ) → k < kinds b → get_or c k 0 ≤ max_members

@@ -37,12 +37,12 @@ pub record Visited (n m : ℕ) (step : ℕ → (ℕ → ℕ → Type 0) → ℕ 
 abbrev pub Marked : (n m : ℕ) (step : ℕ → (ℕ → ℕ → Type 0) → ℕ → Type 0) (into watch : ℕ → ℕ) (w mark : ℕ) (s c : List ℕ) → Type 0
 Marked n m step into watch w mark s c = (mark ≡ 0) ⊎ Visited n m step into watch w mark s c
 
--- a turn of a sweep, or a sweep: what it has come to, and marks that hold unless some set is over_full
+-- a turn of a sweep, or a sweep: what it has come to, and marks that hold unless some set is over-full
 pub record Attended (n : ℕ) (P : ℕ → ℕ → Type 0) (D : Type 0) (marks : List ℕ → List ℕ → Type 0) (s c s' c' : List ℕ) (r : Turn) : Type 0 where
   pub turned : Turned n P D s c s' c' r
   pub marked : (r ≡ Full → ⊥) → marks s' c'
 
--- what sweeps leave once one adds nothing, or some set is over_full: all is in order, and C holds
+-- what sweeps leave once one adds nothing, or some set is over-full: all is in order, and C holds
 pub record Swept (n : ℕ) (P : ℕ → ℕ → Type 0) (C : Type 0) (s c s' c' : List ℕ) (r : Bool) : Type 0 where
   pub fine : Fine n P s' c'
   pub kept : Kept n s c s' c'

@@ -9,7 +9,7 @@ joined t Still = t
 joined t Added = Added
 joined t Full = Full
 
--- the one after p; the end where some set is over_full
+-- the one after p; the end where some set is over-full
 abbrev pub beyond : Turn → ℕ → ℕ → ℕ
 beyond Still p end = p + 1
 beyond Added p end = p + 1

@@ -202,7 +202,7 @@ fn sweep_down(
     turn
 }
 
-// Sweeps until one adds nothing; false where some set would be over_full.
+// Sweeps until one adds nothing; false where some set would be over-full.
 fn close_down(
     book: &[u8],
     places: &[usize],

@@ -1,4 +1,4 @@
-// Attempts one after another, until some set is over_full.
+// Attempts one after another, until some set is over-full.
 ghost use Rattle.std.specs.Prelude.{◌≡◌, ◌<◌};
 ghost use Rattle.tables.specs.Turns.{joined, beyond};
 
@@ -15,7 +15,7 @@ pub fn joined(so: Turn, new: Turn) -> Turn
     }
 }
 
-// The attempt after p; the end where some set is over_full, so that no other is made.
+// The attempt after p; the end where some set is over-full, so that no other is made.
 pub fn beyond(turn: Turn, p: usize, end: usize) -> usize
     requires { p < end }
     ensures { result ≡ beyond turn p end }

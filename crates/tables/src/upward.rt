@@ -117,7 +117,7 @@ fn sweep_up(
     turn
 }
 
-// Sweeps until one adds nothing; false where some set would be over_full.
+// Sweeps until one adds nothing; false where some set would be over-full.
 fn close_up(book: &[u8], places: &[usize], sets: &mut [u32], counts: &mut [u8]) -> bool
     requires { Accepted book.now × Index book.now places.now × Fine (kinds book.now) (Plausible (grammar book.now)) sets.old counts.old }
     ensures { Swept (kinds book.now) (Plausible (grammar book.now))

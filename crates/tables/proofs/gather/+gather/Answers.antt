@@ -1,10 +1,10 @@
 -- Gathering meets its contract, by recursion on the turns left. Assumes nothing.
-use mathlib.Core.Path.{◌≡◌}
+use mathlib.Core.Path.{◌≡◌, ◌∙◌}
 use Prim.Native.Nat.{◌≤◌, ◌<◌, ◌-◌}
 use native.Mathlib.Omega.{arith}
 use Rattle.tables.specs.Visit.{size_of}
 use Rattle.tables.proofs.Rounds.{round_less}
-use Rattle.tables.proofs.Gathering.{one_less, enter_asks, reply_none, reply_known, loop_begun, loop_request, loop_next, loop_end}
+use Rattle.tables.proofs.Gathering.{one_less, enter_asks, reply_none, reply_known, loop_begun, loop_request, loop_next, loop_end, loop_long, loop_long_c, loop_long_seen}
 use Rattle.tables.proofs.gather.+gather.Goals as goal
 
 pub enter-requires : goal.enter-requires
@@ -90,6 +90,24 @@ pub remember-requires : goal.remember-requires
 remember-requires t c =
     let p = c.requires in
     (omega (arith, p.ready.few), c.loop-i.invariant.long, p.standing.state.long)
+
+pub shape_of-seen : goal.shape_of-seen
+shape_of-seen t c =
+    let e = one_less c.args.j c.if-j-eq0.false in
+    let q = rw e at c.requires in
+    c.remember.auto.seen ∙ loop_long_seen _ _ _ _ q c.loop-i.invariant
+
+pub shape_of-sets : goal.shape_of-sets
+shape_of-sets t c =
+    let e = one_less c.args.j c.if-j-eq0.false in
+    let q = rw e at c.requires in
+    loop_long _ _ _ _ q c.loop-i.invariant
+
+pub shape_of-counts : goal.shape_of-counts
+shape_of-counts t c =
+    let e = one_less c.args.j c.if-j-eq0.false in
+    let q = rw e at c.requires in
+    loop_long_c _ _ _ _ q c.loop-i.invariant
 
 pub returns : goal.returns
 returns t c =

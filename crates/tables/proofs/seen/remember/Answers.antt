@@ -5,9 +5,6 @@ use Rattle.tables.specs.Seen.{level_bytes}
 use Rattle.tables.proofs.StatesSeen.{remember_put}
 use Rattle.tables.proofs.seen.remember.Goals as goal
 
-pub overflow_cast-counter : goal.overflow_cast-counter
-overflow_cast-counter c = omega (arith, c.slice_known-2-1.given (c.args.level * level_bytes))
-
 pub returns : goal.returns
 returns c =
     remember_put c.args.seen.now c.args.s.now c.args.level (c.lay.ensures.room (omega (arith, c.requires.0, c.requires.1, c.requires.2))) c.advanced.ensures
