@@ -8,7 +8,7 @@ ghost use Rattle.numbering.specs.Promise.{lent};
 ghost use Rattle.numbering.specs.Places.{plausible_rank, feasible_rank, down_entry_of};
 ghost use Rattle.text.specs.Decimals.{decimals};
 ghost use Rattle.groups.specs.Printed.{blank, line_end, refusal, totals, printed};
-ghost use Rattle.groups.specs.Printed.{numbers as Printed·numbers, line as Printed·line, lines as Printed·lines};
+ghost use Rattle.groups.specs.Printed.{numbers as printed_numbers, line as printed_line, lines as printed_lines};
 ghost use Rattle.groups.specs.Adding.{Adds, TextHeld, Printable, most_text};
 
 use book::limits::MAX_PRODUCTIONS;
@@ -83,7 +83,7 @@ fn lines(
 ) -> usize
     requires { Printable book.now sheet.now (lent nodes.now groups.now) }
     ensures { Adds out.old held
-        (Printed·lines (grammar book.now) sheet.now (lent nodes.now groups.now) (length sheet.now))
+        (printed_lines (grammar book.now) sheet.now (lent nodes.now groups.now) (length sheet.now))
         out.new result }
 {
     let places = book::index(book);
@@ -110,7 +110,7 @@ fn line(
 ) -> usize
     requires { 3 * i + 2 < length nodes.now }
     ensures { Adds out.old held
-        (Printed·line i production (plausible_rank nodes.now i) (feasible_rank nodes.now i) (down_entry_of nodes.now i) groups.now)
+        (printed_line i production (plausible_rank nodes.now i) (feasible_rank nodes.now i) (down_entry_of nodes.now i) groups.now)
         out.new result }
 {
     let h = text::add_decimal(out, held, i as u64);
@@ -129,7 +129,7 @@ fn group(out: &mut [u8], held: usize, number: u16) -> usize
 }
 
 fn numbers(out: &mut [u8], held: usize, groups: &[u16]) -> usize
-    ensures { Adds out.old held (Printed·numbers groups.now) out.new result }
+    ensures { Adds out.old held (printed_numbers groups.now) out.new result }
 {
     let mut h = held;
     let mut i = 0;

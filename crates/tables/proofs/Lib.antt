@@ -1,4 +1,4 @@
--- The laws, by the source modules that they serve. A function's own needs stand in a folder with the module's name and the function's.
+-- The laws, by the source modules that they serve. A function's invariants and answers stand in a folder with the module's name and the function's.
 
 -- labels: joining, dropping, tidying, the code of a slot
 pub mod StateLoops

@@ -1,7 +1,5 @@
 -- A state put at a level. Assumes nothing.
 use native.Mathlib.Omega.{arith}
-use Prim.Native.Nat.{◌*◌}
-use Rattle.tables.specs.Seen.{level_bytes}
 use Rattle.tables.proofs.StatesSeen.{remember_put}
 use Rattle.tables.proofs.seen.remember.Goals as goal
 
