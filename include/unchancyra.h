@@ -1,7 +1,8 @@
 /*
  * Unchancyra for C: the checks of a grammar book and of a tree sheet.
  *
- * Link libservice.a (x86-64 Linux). Of the C library it calls memcpy and memset alone; it needs no heap and no start-up call.
+ * Link libservice.a (x86-64 Linux), which include/archive makes. Of the C library it calls memcpy and memset alone; it needs no
+ * heap and no start-up call.
  *
  * A slice is a pointer and a length: `book` points to `book_length` readable bytes, `sheet` to `sheet_length`.
  * The caller owns them before, during and after the call. The call only reads them, writes nothing anywhere but its own

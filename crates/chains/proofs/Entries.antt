@@ -16,7 +16,7 @@ use Rattle.chains.specs.Choice.{kid_codes, ChosenUp, ChosenDown}
 use Rattle.chains.proofs.Local.{closure_iff}
 use Rattle.chains.proofs.Upward.{Up, Nowhere, chain_iff_up}
 use Rattle.chains.proofs.WellKinded.{kinded_fits, sub_kinded, sub_fits, root_kind, one_tree}
-use Rattle.chains.proofs.Nodes.{sub_in, sub-one, sub_flat, sub_child, parent}
+use Rattle.chains.proofs.Nodes.{sub_in, sub_one, sub_flat, sub_child, parent}
 use Rattle.chains.proofs.Around.{around_all}
 use Rattle.chains.proofs.Downward.{Through, Handed, Exactly, down_nodes}
 use Rattle.chains.proofs.Alike.{says_iff}
@@ -123,7 +123,7 @@ module _ (G : Grammar) (L : Lawful G) (U : ℕ → ℕ) where
               → Says (G.settings (G.left q)) (F i) (NodeChains G f i)
           at_child m p cs j t r =
               let (q', es, u, hd) = root_kind G cs (G.kids p) (suc m) j i (sub_kinded G f (k ∷ []) 0 m p cs kinded t).1 r in
-              let eq = (sub-one f 0 i q q' ds es s (sub_child f 0 m p cs i q' es t u)).0 in
+              let eq = (sub_one f 0 i q q' ds es s (sub_child f 0 m p cs i q' es t u)).0 in
               let e : G.left q ≡ get_or (G.kids p) j 0 = ap (λ q. G.left q) eq ∙ hd.1 in
               rw e (says_iff (G.settings (get_or (G.kids p) j 0)) (F i) (Onto G U F m p cs j) (NodeChains G f i)
               (λ a b. Iff.symm (entries m p cs t (suc j, a) (suc j, b) (i, a) (i, b) (r, refl) (r, refl))) (fall.child m p cs t j i r))

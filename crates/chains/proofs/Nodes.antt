@@ -38,21 +38,21 @@ sub_all (grow p cs rest) n i h =
     go (no k) (no l) kid sib = (p, cs, inl (omega arith, refl, refl))
 
 -- a number is one node at most
-pub sub-one : (f : Bush) (n i q q' : ℕ) (ds ds' : Bush) → Sub f n i q ds → Sub f n i q' ds' → (q ≡ q') × (ds ≡ ds')
-sub-one nil n i q q' ds ds' s t = absurd s
-sub-one (grow p cs rest) n i q q' ds ds' (inl s) (inl t) = (sym s.1 ∙ t.1, sym s.2 ∙ t.2)
-sub-one (grow p cs rest) n i q q' ds ds' (inl s) (inr (inl t)) = let e = s.0 in let h = sub_in cs (suc n) i q' ds' t in absurd (omega arith)
-sub-one (grow p cs rest) n i q q' ds ds' (inl s) (inr (inr t)) =
+pub sub_one : (f : Bush) (n i q q' : ℕ) (ds ds' : Bush) → Sub f n i q ds → Sub f n i q' ds' → (q ≡ q') × (ds ≡ ds')
+sub_one nil n i q q' ds ds' s t = absurd s
+sub_one (grow p cs rest) n i q q' ds ds' (inl s) (inl t) = (sym s.1 ∙ t.1, sym s.2 ∙ t.2)
+sub_one (grow p cs rest) n i q q' ds ds' (inl s) (inr (inl t)) = let e = s.0 in let h = sub_in cs (suc n) i q' ds' t in absurd (omega arith)
+sub_one (grow p cs rest) n i q q' ds ds' (inl s) (inr (inr t)) =
     let e = s.0 in let h = sub_in rest (suc (n + size cs)) i q' ds' t in absurd (omega arith)
-sub-one (grow p cs rest) n i q q' ds ds' (inr (inl s)) (inl t) = let e = t.0 in let h = sub_in cs (suc n) i q ds s in absurd (omega arith)
-sub-one (grow p cs rest) n i q q' ds ds' (inr (inl s)) (inr (inl t)) = sub-one cs (suc n) i q q' ds ds' s t
-sub-one (grow p cs rest) n i q q' ds ds' (inr (inl s)) (inr (inr t)) =
+sub_one (grow p cs rest) n i q q' ds ds' (inr (inl s)) (inl t) = let e = t.0 in let h = sub_in cs (suc n) i q ds s in absurd (omega arith)
+sub_one (grow p cs rest) n i q q' ds ds' (inr (inl s)) (inr (inl t)) = sub_one cs (suc n) i q q' ds ds' s t
+sub_one (grow p cs rest) n i q q' ds ds' (inr (inl s)) (inr (inr t)) =
     let h = sub_in cs (suc n) i q ds s in let k = sub_in rest (suc (n + size cs)) i q' ds' t in absurd (omega arith)
-sub-one (grow p cs rest) n i q q' ds ds' (inr (inr s)) (inl t) =
+sub_one (grow p cs rest) n i q q' ds ds' (inr (inr s)) (inl t) =
     let e = t.0 in let h = sub_in rest (suc (n + size cs)) i q ds s in absurd (omega arith)
-sub-one (grow p cs rest) n i q q' ds ds' (inr (inr s)) (inr (inl t)) =
+sub_one (grow p cs rest) n i q q' ds ds' (inr (inr s)) (inr (inl t)) =
     let h = sub_in cs (suc n) i q' ds' t in let k = sub_in rest (suc (n + size cs)) i q ds s in absurd (omega arith)
-sub-one (grow p cs rest) n i q q' ds ds' (inr (inr s)) (inr (inr t)) = sub-one rest (suc (n + size cs)) i q q' ds ds' s t
+sub_one (grow p cs rest) n i q q' ds ds' (inr (inr s)) (inr (inr t)) = sub_one rest (suc (n + size cs)) i q q' ds ds' s t
 
 -- a node's production is what stands at its number in preorder
 flat_at : (f : Bush) (n i q : ℕ) (ds : Bush) (d : ℕ) → Sub f n i q ds → (t : ℕ) × (i ≡ n + t) × (get_or (flat f) t d ≡ q)

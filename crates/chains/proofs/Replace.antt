@@ -15,7 +15,7 @@ use Rattle.chains.proofs.Range.{Within, Top}
 use Rattle.chains.proofs.Forest.{Tree, tree_in, in_first, from_first}
 use Rattle.chains.proofs.Upward.{Up, Fits, chain_up, up_chain, chain_iff_up}
 use Rattle.chains.proofs.WellKinded.{kinded_fits, sub_fits}
-use Rattle.chains.proofs.Nodes.{sub-one, chain_fitted}
+use Rattle.chains.proofs.Nodes.{sub_one, chain_fitted}
 use Rattle.chains.proofs.Alike.{says_same}
 use Rattle.chains.proofs.Holes.{Outer, plug_split, plug_outer, plug_inner, outer_shift, shifts_back, shifts_one, plug_kind, sub_counterpart}
 
@@ -92,7 +92,7 @@ module _ (G : Grammar) (L : Lawful G) (k : ℕ) where
       elim (chain_fitted G L (grow q ds nil) (k ∷ []) 0 kinded c) [ inl e ↦ inl (ap (λ (x : Inst). x.1) e) | inr h ↦ inr (has a h.0, has b h.1) ]
     where
       has : (a : ℕ) → Fitted G (grow q ds nil) 0 (0, a) → a < G.settings (G.left q)
-      has a (p, cs, s, l) = rw (sub-one (grow q ds nil) 0 0 q p ds cs (inl (refl, refl, refl)) s).0 l
+      has a (p, cs, s, l) = rw (sub_one (grow q ds nil) 0 0 q p ds cs (inl (refl, refl, refl)) s).0 l
 
   up_there : (q q' : ℕ) (ds ds' : Bush) → Kinded G (grow q ds nil) (k ∷ []) → Kinded G (grow q' ds' nil) (k ∷ [])
       → ((a b : ℕ) → a < G.settings (G.left q) → b < G.settings (G.left q) → RootChains G q ds a b → RootChains G q' ds' a b)
@@ -138,7 +138,7 @@ module _ (G : Grammar) (L : Lawful G) (h : Hole) (ks : List ℕ) (q q' : ℕ) (d
     pub replaced_kind : G.left p ≡ G.left p'
     replaced_kind =
         let (p'', cs'', s'', e, u) = sub_counterpart G q q' ds ds' goes_up h 0 m m' p cs moves s in
-        kept p p'' e ∙ ap (λ t. G.left t) (sub-one (plug h q' ds') 0 m' p'' p' cs'' cs' s'' s').0
+        kept p p'' e ∙ ap (λ t. G.left t) (sub_one (plug h q' ds') 0 m' p'' p' cs'' cs' s'' s').0
       where
         kept : (p p'' : ℕ) → (p ≡ p'') ⊎ ((p ≡ q) × (p'' ≡ q')) → G.left p ≡ G.left p''
         kept p p'' (inl e) = ap (λ t. G.left t) e
@@ -148,7 +148,7 @@ module _ (G : Grammar) (L : Lawful G) (h : Hole) (ks : List ℕ) (q q' : ℕ) (d
     pub replaced_subtree : (a b : ℕ) → RootChains G p cs a b ↔ RootChains G p' cs' a b
     replaced_subtree a b =
         let (p'', cs'', s'', e, u) = sub_counterpart G q q' ds ds' goes_up h 0 m m' p cs moves s in
-        let (ep, ec) = sub-one (plug h q' ds') 0 m' p'' p' cs'' cs' s'' s' in
+        let (ep, ec) = sub_one (plug h q' ds') 0 m' p'' p' cs'' cs' s'' s' in
         let u' : Up G (grow p cs nil) 0 a b ↔ Up G (grow p' cs' nil) 0 a b = rw (← ep, ← ec) (u a b) in
         let fits = sub_fits G (plug h q ds) 0 m p cs (kinded_fits G L (plug h q ds) ks kinded) s in
         let fits' = sub_fits G (plug h q' ds') 0 m' p' cs' (kinded_fits G L (plug h q' ds') ks kinded') s' in

@@ -15,7 +15,7 @@ use Rattle.chains.proofs.Closure.{back}
 use Rattle.chains.proofs.Range.{Top, root_in}
 use Rattle.chains.proofs.Upward.{Nowhere}
 use Rattle.chains.proofs.WellKinded.{sub_kinded, root_kids, one_tree}
-use Rattle.chains.proofs.Nodes.{sub_in, sub-one, chain_fitted}
+use Rattle.chains.proofs.Nodes.{sub_in, sub_one, chain_fitted}
 use Rattle.chains.proofs.Around.{Around, Touch, Above, Before, free, past, around_all, around_children, around_rest}
 use Rattle.chains.proofs.Separate.{separate}
 use Rattle.chains.proofs.Number.{Faithful, Given, Shows, Tells, faithful_none, faithful_iff, run}
@@ -95,7 +95,7 @@ module _ (G : Grammar) (L : Lawful G) (F : Bush) (ks : List ℕ) (kinded : Kinde
     own_setting y b h t (inl e) = let e₀ = ap (λ (z : Inst). z.0) e in absurd (omega arith)
     own_setting y b h t (inr (f, (q, ds, s, l))) =
         let s' : Sub F 0 n q ds = rw t at s in
-        let e = ap (λ q. G.left q) (sub-one F 0 n q p ds cs s' here).0 in
+        let e = ap (λ q. G.left q) (sub_one F 0 n q p ds cs s' here).0 in
         rw (← e) l
 
     -- a chain from what was numbered before to a child's setting passes the node itself
@@ -178,7 +178,7 @@ module _ (G : Grammar) (L : Lawful G) (k : ℕ) (like : ℕ → Occ → Occ → 
     rooted_top j x r (q, ds, s, u) =
         let e : x.0 ≡ 0 = (one_tree G (grow p cs nil) k 0 j x.0 kinded r).1 in
         let s' : Sub (grow p cs nil) 0 0 q ds = rw e at s in
-        let u' : x.1 < G.settings (G.left p) = rw (sub-one (grow p cs nil) 0 0 p q cs ds here s').0 u in
+        let u' : x.1 < G.settings (G.left p) = rw (sub_one (grow p cs nil) 0 0 p q cs ds here s').0 u in
         inr ((0, x.1), occurrence_listed G 0 (G.left p ∷ []) (0, x.1) (0, refl, omega arith, u'), Σ_path e refl)
 
     all_fitted : (x : Inst) → First x ⊎ Fitted G (grow p cs nil) 0 x → Fitted G (grow p cs nil) 0 x

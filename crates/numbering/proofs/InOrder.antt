@@ -12,7 +12,7 @@ use Rattle.chains.specs.Grammar.{Occ, Grammar, width}
 use Rattle.chains.specs.Tree.{Bush, nil, grow, size, flat, Kinded, Inst, Sub}
 use Rattle.chains.specs.Numbering.{in_slot, occurrences, setting, Numbers}
 use Rattle.chains.specs.Numbering as rule
-use Rattle.chains.proofs.Nodes.{sub-one, flat_length}
+use Rattle.chains.proofs.Nodes.{sub_one, flat_length}
 use Rattle.sheet.specs.Reading.{all_settings}
 use Rattle.sheet.proofs.Reading.{settings_next}
 use Rattle.numbering.specs.Walk.{holder, holds, Tables, Held, entry_of, given, places, numbered, unused, kid_labels, held, own_held, Numbered, walk, root_entry, root_labels, started, group_numbers}
@@ -395,7 +395,7 @@ module _ (G : Grammar) (T : Tables) (k p : ℕ) (cs : Bush) (kinded : Kinded G (
     unfolding next_at
     one_tree_numbered = record {
       top = λ q ds s.
-          let (eq, ed) = sub-one tree 0 0 p q cs ds (inl (refl, refl, refl)) s in
+          let (eq, ed) = sub_one tree 0 0 p q cs ds (inl (refl, refl, refl)) s in
           subst₂ (λ q ds. Numbers (Like G T sheet nodes groups next 0) (λ o. number (setting 0 ds o)) [] 0 (occurrences G 0 (G.left q ∷ [])) (next_at G T tree 0)) eq ed root_numbers;
       below = λ i q ds s.
           nodes_numbered G T sheet nodes groups next tree (k ∷ []) 0 (started G T tree) (first_numbers G T tree) (first_next G T tree) kinded walked i q ds s;

@@ -10,7 +10,7 @@ use lib.ListN.{length, get_or, set, length-set}
 use lib.Seq.{get_or-set_same, get_or-set_other}
 use Rattle.chains.specs.Limits.{max_kids, max_nodes}
 use Rattle.chains.specs.Tree.{Bush, size, Kinded, Sub}
-use Rattle.chains.proofs.Nodes.{sub_in, sub-one}
+use Rattle.chains.proofs.Nodes.{sub_in, sub_one}
 use Rattle.book.specs.Format.{grammar, prods}
 use Rattle.bookcheck.specs.Accepted.{Accepted}
 use Rattle.ranks.specs.Entries.{up_start, up_entry, none}
@@ -173,7 +173,7 @@ module _ {b l c u kept ends : List ℕ} {i : ℕ} (g : UpGoing b l c u kept ends
           now t d w m q ds s z =
               let (n, h) = here f t d w in
               let s' : Sub t.tree 0 (i - 1) q ds = subst (λ y. Sub t.tree 0 y q ds) z s in
-              let (eq, ed) = sub-one t.tree 0 (i - 1) q (get_or l (i - 1) 0) ds n.below s' n.is_node in
+              let (eq, ed) = sub_one t.tree 0 (i - 1) q (get_or l (i - 1) 0) ds n.below s' n.is_node in
               let size_is : size ds ≡ size n.below = ap size ed in
               (rw (eq, ed, ← ep) h.0, rw (eq, ed, ← ep) h.1, ex ∙ h.2 ∙ omega arith)
 

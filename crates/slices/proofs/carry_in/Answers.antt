@@ -1,14 +1,9 @@
 -- Carrying a number into a rising part meets its contract. Assumes nothing.
-use mathlib.Core.Path.{◌≡◌, refl}
-use Prim.Native.Nat.{ℕ, ◌≤◌, ◌<◌}
+use mathlib.Core.Path.{refl}
 use native.Mathlib.Omega.{arith}
-use borrow.Author.Rules.{rules}
 use Rattle.lists.proofs.Carry.{begun, swapped, passed, found, ended}
 use Rattle.slices.proofs.carry_in.Goals as goal
 use Rattle.slices.proofs.carry_in.Goals.{then-carry-y-2, else-carry-y-2}
-
-less-of : (a b : ℕ) → a ≤ b → (b ≡ a → ⊥) → a < b
-less-of a b h n = search rules
 
 pub loop-i-init : goal.loop-i-init
 loop-i-init c = begun _ _ _ _ c.requires
@@ -37,8 +32,8 @@ loop-i-smaller c = omega arith
 pub loop-i-preserved : goal.loop-i-preserved
 loop-i-preserved c =
     elim c.if-carry-y-2.branch [
-      | then-carry-y-2 w ↦ rw (w.s-is, w.carry-is) (swapped c.loop-i.invariant _ c.loop-i-test.true refl w.if-carry-y-2.true)
-      | else-carry-y-2 w ↦ rw (w.s-is, w.carry-is) (passed c.loop-i.invariant _ c.loop-i-test.true refl (less-of _ _ w.if-carry-y-2.false c.if-carry-y.false))
+      | then-carry-y-2 w ↦ rw (w.s-is, w.carry-is) (swapped c.loop-i.invariant _ c.loop-i-test.true refl (omega (arith, w.if-carry-y-2.true, c.if-carry-y.false)))
+      | else-carry-y-2 w ↦ rw (w.s-is, w.carry-is) (passed c.loop-i.invariant _ c.loop-i-test.true refl (omega (arith, w.if-carry-y-2.false, c.if-carry-y.false)))
     ]
 
 pub overflow_add-s-2 : goal.overflow_add-s-2
