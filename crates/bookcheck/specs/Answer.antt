@@ -1,9 +1,9 @@
 -- What the check's answer says, in the paper's numbers.
-use Rattle.std.specs.Prelude.{[], ◌∷◌}
-use Rattle.lists.specs.Refusals.{Said, accepted, refused}
-use Rattle.bookcheck.specs.declared.Checked.{Checked}
-use Rattle.bookcheck.specs.declared.Checked.TheVariants.{Accepted, Refused}
+use Rattle.std.specs.Prelude.{[], ◌∷◌, Result}
+use Rattle.lists.specs.Refusals.{Said}
+use Rattle.refusals.specs.Table.{said_by}
+use Rattle.refusals.specs.declared.Refused.{Refused}
+use Rattle.bookcheck.specs.declared.Counts.{Counts}
 
-abbrev pub said : Checked → Said
-said (Accepted kinds productions) = accepted (kinds ∷ productions ∷ [])
-said (Refused number place) = refused number place
+abbrev pub said : Result Counts Refused → Said
+said = said_by (λ c. c.kinds ∷ c.productions ∷ [])

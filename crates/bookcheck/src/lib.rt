@@ -14,13 +14,14 @@ ghost use Rattle.bookcheck.specs.Answer.{said};
 ghost use Rattle.bookcheck.specs.Search.{Opened};
 
 use book::{field, kinds, limits, productions, start};
+use refusals::{Refusal, Refused};
 use walk::Row;
 
-// What the check of a book answers.
-#[derive(Clone, Copy)]
-pub enum Checked {
-    Accepted { kinds: u16, productions: u16 },
-    Refused { number: u8, place: u16 },
+// What an accepted book has.
+#[derive(Clone, Copy, Debug, PartialEq, Eq)]
+pub struct Counts {
+    pub kinds: u16,
+    pub productions: u16,
 }
 
 fn wide(x: u8) -> usize
@@ -41,30 +42,21 @@ fn span(x: u16) -> usize
     x as usize
 }
 
-fn refused(number: u8, place: u8) -> Checked
-    ensures { result ≡ Checked.Refused number place }
-{
-    Checked::Refused {
-        number,
-        place: word(place),
-    }
-}
-
 // Refusals 1 to 8, each sought over the whole book before the next.
-pub fn check_book(book: &[u8]) -> Checked
+pub fn check_book(book: &[u8]) -> Result<Counts, Refused>
     ensures { BookDue book.now (said result) }
 {
     if book.len() < limits::TRAILER {
-        return refused(1, 0);
+        return Err(Refusal::BookTooShort.at(0));
     }
     if field(book, 0) != limits::EDITION {
-        return refused(2, 0);
+        return Err(Refusal::UnknownEdition.at(0));
     }
     if layout::out_of_range(book) {
-        return refused(3, 0);
+        return Err(Refusal::OutOfRange.at(0));
     }
     if !layout::is_laid(book) {
-        return refused(4, 0);
+        return Err(Refusal::BadLayout.at(0));
     }
     check_entries(
         book,
@@ -75,28 +67,28 @@ pub fn check_book(book: &[u8]) -> Checked
 }
 
 // Refusals 5 to 8, of a book that is laid out.
-fn check_entries(book: &[u8], n: u8, m: u8, first: u8) -> Checked
+fn check_entries(book: &[u8], n: u8, m: u8, first: u8) -> Result<Counts, Refused>
     requires { Opened book.now n m first }
     ensures { BookDue book.now (said result) }
 {
     let k = masks::first_bad_kind(book, n, first);
     if k < n {
-        return refused(5, k);
+        return Err(Refusal::BadKind.at(u16::from(k)));
     }
     let p = walk::first_bad(book, Row::Kids, n, first, m);
     if p < m {
-        return refused(6, p);
+        return Err(Refusal::BadChildren.at(u16::from(p)));
     }
     let q = walk::first_bad(book, Row::Ties, n, first, m);
     if q < m {
-        return refused(7, q);
+        return Err(Refusal::BadPairs.at(u16::from(q)));
     }
     let h = heads::first_headless(book, n, m);
     if h < n {
-        return refused(8, h);
+        return Err(Refusal::NoProduction.at(u16::from(h)));
     }
-    Checked::Accepted {
-        kinds: word(n),
-        productions: word(m),
-    }
+    Ok(Counts {
+        kinds: u16::from(n),
+        productions: u16::from(m),
+    })
 }

@@ -5,23 +5,23 @@ use Rattle.bookcheck.proofs.Laying.{told_is, few_kinds, few_prods, start_in}
 use Rattle.bookcheck.proofs.check_book.Goals as goal
 
 pub returns-then-book-lt-TRAILER : goal.returns-then-book-lt-TRAILER
-returns-then-book-lt-TRAILER c = rw c.refused.ensures (due_1 c.args.book.now c.if-book-lt-TRAILER.true)
+returns-then-book-lt-TRAILER c = rw c.at.ensures (due_1 c.args.book.now c.if-book-lt-TRAILER.true)
 
 pub returns-then-field-ne-EDITION : goal.returns-then-field-ne-EDITION
 returns-then-field-ne-EDITION c = let b = c.args.book.now in
     let e = c.field.ensures ∙ told_is b 0 c.if-book-lt-TRAILER.false in
-    rw c.refused-then-field-ne-EDITION.ensures (due_2 b c.if-book-lt-TRAILER.false (λ h. c.if-field-ne-EDITION.true (e ∙ h)))
+    rw c.at-then-field-ne-EDITION.ensures (due_2 b c.if-book-lt-TRAILER.false (λ h. c.if-field-ne-EDITION.true (e ∙ h)))
 
 pub returns-then-out_of_range : goal.returns-then-out_of_range
 returns-then-out_of_range c = let b = c.args.book.now in
     let e = sym (c.field.ensures ∙ told_is b 0 c.if-book-lt-TRAILER.false) ∙ c.if-field-ne-EDITION.false in
-    rw c.refused-then-out_of_range.ensures (due_3 b c.if-book-lt-TRAILER.false e (c.out_of_range.ensures.holds c.if-out_of_range.true))
+    rw c.at-then-out_of_range.ensures (due_3 b c.if-book-lt-TRAILER.false e (c.out_of_range.ensures.holds c.if-out_of_range.true))
 
 pub returns-then-not-is_laid : goal.returns-then-not-is_laid
 returns-then-not-is_laid c = let b = c.args.book.now in
     let e = sym (c.field.ensures ∙ told_is b 0 c.if-book-lt-TRAILER.false) ∙ c.if-field-ne-EDITION.false in
     let r = c.out_of_range.ensures.fails c.if-out_of_range.false in
-    rw c.refused-then-not-is_laid.ensures (due_4 b c.if-book-lt-TRAILER.false e r (c.is_laid.ensures.fails c.if-not-is_laid.true))
+    rw c.at-then-not-is_laid.ensures (due_4 b c.if-book-lt-TRAILER.false e r (c.is_laid.ensures.fails c.if-not-is_laid.true))
 
 pub overflow_cast-kinds : goal.overflow_cast-kinds
 overflow_cast-kinds c =
