@@ -1,26 +1,9 @@
 -- What a read of the up or the down table finds.
-use Rattle.std.specs.Prelude.{◌≡◌, List, [], ◌∷◌, ℕ, zero, suc, ◌+◌, ◌*◌, ◌≤◌, ◌<◌, length, get_or, take}
+use Rattle.std.specs.Prelude.{◌≡◌, Option, Some, None, List, [], ◌∷◌, ℕ, zero, suc, ◌+◌, ◌*◌, ◌≤◌, ◌<◌, length, get_or, take}
 use Rattle.lists.specs.Part.{part}
 use Rattle.chains.specs.Limits.{max_kids}
 use Rattle.ranks.specs.Entries.{choices, choice, labels, entry_bytes, none}
 use Rattle.ranks.specs.declared.Plausible.{Plausible}
-use Rattle.ranks.specs.declared.UpRead.{UpRead}
-use Rattle.ranks.specs.declared.UpRead.TheVariants as up
-use Rattle.ranks.specs.declared.DownRead.{DownRead}
-use Rattle.ranks.specs.declared.DownRead.TheVariants as down
-
--- the answer of a read: a number, or that the entry is past its slice
-pub data Found : Type 0 where
-  found : ℕ → Found
-  past : Found
-
-abbrev pub up_said : UpRead → Found
-up_said (up.Rank r) = found r.0
-up_said up.Past = past
-
-abbrev pub down_said : DownRead → Found
-down_said (down.At e) = found e
-down_said down.Past = past
 
 -- the ranks' numbers
 unfoldable pub numbers : List Plausible → List ℕ
@@ -44,15 +27,15 @@ up_number start counts ranks = start + choice counts places ranks
 abbrev pub down_number : ℕ → List ℕ → ℕ → List ℕ → ℕ
 down_number start counts f ranks = start + (f * choices counts places + choice counts places ranks)
 
--- THE PROMISE of an up read: the byte of entry e, or past where the slice has no such byte
-abbrev pub UpFinds : List ℕ → ℕ → Found → Type 0
-UpFinds up e (found r) = (e < length up) × (r ≡ get_or up e none)
-UpFinds up e past = length up ≤ e
+-- THE PROMISE of an up read: the byte of entry e, or none where the slice has no such byte
+abbrev pub UpFinds : List ℕ → ℕ → Option Plausible → Type 0
+UpFinds up e (Some r) = (e < length up) × (r.0 ≡ get_or up e none)
+UpFinds up e None = length up ≤ e
 
--- THE PROMISE of a down read: the entry's number, or past where the entry is not whole within the slice
-abbrev pub DownFinds : List ℕ → ℕ → Found → Type 0
-DownFinds down e (found x) = ((e + 1) * entry_bytes ≤ length down) × (x ≡ e)
-DownFinds down e past = length down < (e + 1) * entry_bytes
+-- THE PROMISE of a down read: the entry's number, or none where the entry is not whole within the slice
+abbrev pub DownFinds : List ℕ → ℕ → Option ℕ → Type 0
+DownFinds down e (Some x) = ((e + 1) * entry_bytes ≤ length down) × (x ≡ e)
+DownFinds down e None = length down < (e + 1) * entry_bytes
 
 -- the bytes of a down entry, its label at occurrence o, and the feasible rank of its child j, from 0 on; none where there is no such byte
 abbrev pub entry_at : List ℕ → ℕ → List ℕ

@@ -5,7 +5,9 @@ ghost use Rattle.std.specs.Prelude.{◌≡◌, suc, ◌+◌, ◌*◌, ◌^◌, �
 ghost use Rattle.chains.specs.Limits.{max_kids};
 ghost use Rattle.ranks.specs.Entries.{choices, choice, byte_values, entry_bytes, none};
 ghost use Rattle.ranks.specs.Room.{room_said, RoomDue};
-ghost use Rattle.ranks.specs.Reads.{up_said, down_said, numbers, places, up_number, down_number, UpFinds, DownFinds, entry_at, label_at, child_rank_at};
+ghost use Rattle.ranks.specs.Reads.{numbers, places, up_number, down_number, UpFinds, DownFinds, entry_at, label_at, child_rank_at};
+
+use refusals::{Refusal, Refused};
 
 // The children of a production, and a down entry: a label for each occurrence, then a rank for each child.
 pub const KIDS: usize = book::limits::MAX_CHILDREN as usize;
@@ -17,23 +19,11 @@ pub const ENTRY: usize = LABELS + KIDS;
 // The absence of a label or a rank.
 pub const NONE: u8 = 255;
 
-#[derive(Clone, Copy)]
+#[derive(Clone, Copy, Debug, PartialEq, Eq)]
 pub struct Plausible(pub u8);
 
-#[derive(Clone, Copy)]
+#[derive(Clone, Copy, Debug, PartialEq, Eq)]
 pub struct Feasible(pub u8);
-
-#[derive(Clone, Copy)]
-pub enum UpRead {
-    Rank(Plausible),
-    Past,
-}
-
-#[derive(Clone, Copy)]
-pub enum DownRead {
-    At(u64),
-    Past,
-}
 
 fn wide(x: u8) -> u64
     ensures { (result ≡ x) × (result < byte_values) }
@@ -57,19 +47,24 @@ fn numbered(most: u8, counts: [u8; KIDS], ranks: [Plausible; KIDS]) -> u64
 
 // The rank that the up table has for a production, whose entries begin at start, and a choice: its children's counts and ranks, a count of 1
 // and a rank of 0 past the last child. start is compared with the slice first, so that no sum wraps.
-pub fn read_up(up: &[u8], start: u64, counts: [u8; KIDS], ranks: [Plausible; KIDS]) -> UpRead
-    ensures { UpFinds up.now (up_number start counts (numbers ranks)) (up_said result) }
+pub fn read_up(
+    up: &[u8],
+    start: u64,
+    counts: [u8; KIDS],
+    ranks: [Plausible; KIDS],
+) -> Option<Plausible>
+    ensures { UpFinds up.now (up_number start counts (numbers ranks)) result }
 {
     let size = up.len() as u64;
     if size <= start {
-        return UpRead::Past;
+        return None;
     }
     let choice = numbered(0, counts, ranks);
     if size - start <= choice {
-        return UpRead::Past;
+        return None;
     }
     let at = (start + choice) as usize;
-    UpRead::Rank(Plausible(up[at]))
+    Some(Plausible(up[at]))
 }
 
 // The number of the down entry of a feasible rank and a choice, where the entry is whole within the slice.
@@ -79,18 +74,18 @@ pub fn read_down(
     counts: [u8; KIDS],
     f: Feasible,
     ranks: [Plausible; KIDS],
-) -> DownRead
-    ensures { DownFinds down.now (down_number start counts f.0 (numbers ranks)) (down_said result) }
+) -> Option<u64>
+    ensures { DownFinds down.now (down_number start counts f.0 (numbers ranks)) result }
 {
     let whole = (down.len() / ENTRY) as u64;
     if whole <= start {
-        return DownRead::Past;
+        return None;
     }
     let within = numbered(f.0, counts, ranks);
     if whole - start <= within {
-        return DownRead::Past;
+        return None;
     }
-    DownRead::At(start + within)
+    Some(start + within)
 }
 
 // Byte i of a down entry. The entry is compared with the slice before its place is worked out.
@@ -138,23 +133,15 @@ pub fn started(r: Plausible) -> Feasible
     Feasible(r.0)
 }
 
-// Which table's entries exceed its slice, the up table's asked first; or neither's.
-#[derive(Clone, Copy)]
-pub enum Room {
-    Both,
-    UpExceeds,
-    DownExceeds,
-}
-
 // Refusals 12 and 13: so many entries held against slices of so many bytes.
-pub fn room_for(up: usize, down: usize, ups: u64, downs: u64) -> Room
+pub fn room_for(up: usize, down: usize, ups: u64, downs: u64) -> Result<(), Refused>
     ensures { RoomDue up down ups downs (room_said result) }
 {
     if (up as u64) < ups {
-        return Room::UpExceeds;
+        return Err(Refusal::ShortUpTable.at(0));
     }
     if ((down / ENTRY) as u64) < downs {
-        return Room::DownExceeds;
+        return Err(Refusal::ShortDownTable.at(0));
     }
-    Room::Both
+    Ok(())
 }
