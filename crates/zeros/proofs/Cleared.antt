@@ -1,12 +1,10 @@
 -- A list whose first n places are cleared, place by place.
-use mathlib.Core.Path.{◌≡◌, refl, ap, ◌∙◌}
-use mathlib.Core.Bool.{Bool, true, false}
-use mathlib.Core.List.{List, append-nil}
+use mathlib.Core.Path.{◌≡◌, ap, ◌∙◌}
+use mathlib.Core.List.{List}
 use Prim.Native.Nat.{ℕ, ◌+◌, ◌-◌, ◌≤◌, ◌<◌, min}
 use native.Mathlib.Omega.{arith}
 use lib.ListN.{length, get_or, drop, replicate, length-append, length-drop, length-replicate, get_or-replicate, get_or-append}
-use lib.Seq.{get_or-append-add, get_or-drop, drop-length}
-use Rattle.lists.specs.Pick.{pick}
+use lib.Seq.{get_or-append-add, get_or-drop}
 use Rattle.zeros.specs.Zeros.{cleared, Cleared}
 
 module _ (n : ℕ) (s : List ℕ) where
@@ -22,18 +20,6 @@ module _ (n : ℕ) (s : List ℕ) where
       let d : n + (i - n) ≡ i = omega arith in
       ap (λ (k : ℕ). get_or (cleared n s) k 0) e ∙ get_or-append-add (replicate n 0) (drop n s) (i - n) 0
       ∙ get_or-drop n s (i - n) 0 ∙ ap (λ (k : ℕ). get_or s k 0) d
-
-pub cleared_whole : (s : List ℕ) → cleared (length s) s ≡ replicate (length s) 0
-cleared_whole s = rw (drop-length s) (append-nil (replicate (length s) 0))
-
--- ── all places, or none ──
-pub extent_fits : (q : Bool) (k : ℕ) {n : ℕ} → n ≡ pick q k 0 → n ≤ k
-extent_fits true k e = omega arith
-extent_fits false k e = omega arith
-
-pub cleared_all : (q : Bool) (s : List ℕ) {n : ℕ} → n ≡ pick q (length s) 0 → cleared n s ≡ pick q (replicate (length s) 0) s
-cleared_all true s e = ap (λ k. cleared k s) e ∙ cleared_whole s
-cleared_all false s e = ap (λ k. cleared k s) e ∙ refl
 
 -- ── no more places than there are ──
 pub clears : (n : ℕ) (s : List ℕ) {s' : List ℕ} → n ≤ length s → Cleared n s s' → s' ≡ cleared n s

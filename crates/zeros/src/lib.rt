@@ -1,72 +1,49 @@
 // Places of lent slices made zero: the first ones, or all of them after a refusal.
 #![tactic(auto)]
 
-ghost use Rattle.std.specs.Prelude.{◌≡◌, ◌≤◌, min, length};
-ghost use Rattle.lists.specs.Pick.{pick};
-ghost use Rattle.zeros.specs.Zeros.{cleared, Cleared, Wiped};
+ghost use Rattle.std.specs.Prelude.{◌≡◌};
+ghost use Rattle.zeros.specs.Zeros.{ClearedTo, WipedTo, Wiped};
 
-fn zero32(s: &mut [u32], n: usize)
-    requires { n ≤ length s.old }
-    ensures { s.new ≡ cleared n s.old }
-{
-    let mut i = 0;
-    while i < n {
-        s[i] = 0;
-        i += 1;
+// What has a zero: bytes and words.
+pub trait Zero: Copy {
+    ghost zero: { Self };
+
+    fn zero() -> Self
+        ensures { result ≡ zero };
+}
+
+impl Zero for u8 {
+    ghost zero = { 0 };
+
+    fn zero() -> u8 {
+        0
     }
 }
 
-fn zero8(s: &mut [u8], n: usize)
-    requires { n ≤ length s.old }
-    ensures { s.new ≡ cleared n s.old }
-{
-    let mut place = 0;
-    while place < n {
-        s[place] = 0;
-        place += 1;
-    }
-}
+impl Zero for u32 {
+    ghost zero = { 0 };
 
-fn lesser(n: usize, m: usize) -> usize
-    ensures { result ≡ min n m }
-{
-    if m < n { m } else { n }
+    fn zero() -> u32 {
+        0
+    }
 }
 
 // The first n places become zero, or all of them where there are fewer.
-pub fn clear32(s: &mut [u32], n: usize)
-    ensures { Cleared n s.old s.new }
+pub fn clear<T: Zero>(s: &mut [T], n: usize)
+    ensures { ClearedTo T.zero n s.old s.new }
 {
-    let end = lesser(n, s.len());
-    zero32(s, end);
+    let end = n.min(s.len());
+    for place in &mut s[..end] {
+        *place = T::zero();
+    }
 }
 
-pub fn clear8(s: &mut [u8], n: usize)
-    ensures { Cleared n s.old s.new }
+fn wipe_one<T: Zero>(all: bool, s: &mut [T])
+    ensures { WipedTo T.zero all s.old s.new }
 {
-    let end = lesser(n, s.len());
-    zero8(s, end);
-}
-
-// How many of n places to wipe: all of them, or none.
-fn extent(all: bool, n: usize) -> usize
-    ensures { result ≡ pick all n 0 }
-{
-    if all { n } else { 0 }
-}
-
-fn wipe32(all: bool, s: &mut [u32])
-    ensures { Wiped all s.old s.new }
-{
-    let n = extent(all, s.len());
-    zero32(s, n);
-}
-
-fn wipe8(all: bool, s: &mut [u8])
-    ensures { Wiped all s.old s.new }
-{
-    let n = extent(all, s.len());
-    zero8(s, n);
+    if all {
+        clear(s, s.len());
+    }
 }
 
 // The six slices of a build become zero throughout, or nothing of them.
@@ -86,10 +63,10 @@ pub fn wipe(
         × Wiped all up.old up.new
         × Wiped all down.old down.new }
 {
-    wipe32(all, plausible);
-    wipe8(all, counts);
-    wipe32(all, feasible);
-    wipe8(all, tally);
-    wipe8(all, up);
-    wipe8(all, down);
+    wipe_one(all, plausible);
+    wipe_one(all, counts);
+    wipe_one(all, feasible);
+    wipe_one(all, tally);
+    wipe_one(all, up);
+    wipe_one(all, down);
 }
