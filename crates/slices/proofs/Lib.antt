@@ -1,2 +1,3 @@
-pub mod Laid
+pub mod Carrying
 pub mod Once
+pub mod Relabelling

@@ -1,32 +1,12 @@
 -- A label changed everywhere. Assumes nothing.
-use mathlib.Core.Path.{refl, ◌∙◌}
-use native.Mathlib.Omega.{arith}
-use lib.ListN.{length-set}
-use Rattle.lists.proofs.MapTo.{map_to, map_to_more, map_to_all}
-use Rattle.chains.specs.Labels.{swap, relabel}
+use Rattle.std.proofs.Common.{arith}
+use Rattle.slices.proofs.Relabelling.{changed, passed}
 use Rattle.slices.proofs.relabel.Goals as goal
+use Rattle.slices.proofs.relabel.Goals.{then-label-b, else-label-b}
 
-pub loop-holder-init : goal.loop-holder-init
-unfolding map_to
-loop-holder-init c = (refl, refl)
-
-pub bounds-s-holder : goal.bounds-s-holder
-bounds-s-holder c = omega arith
-
-pub bounds-s-holder-in-loop-holder : goal.bounds-s-holder-in-loop-holder
-bounds-s-holder-in-loop-holder c = omega arith
-
-pub overflow_add-holder : goal.overflow_add-holder
-overflow_add-holder c = omega arith
-
-pub loop-holder-smaller : goal.loop-holder-smaller
-loop-holder-smaller c = omega arith
-
-pub loop-holder-preserved : goal.loop-holder-preserved
-loop-holder-preserved c =
-    (rw (c.swapped.ensures, c.loop-holder.invariant.0) (map_to_more (swap c.args.a c.args.b) c.loop-holder.holder c.args.s.now (omega arith)), length-set c.loop-holder.s c.loop-holder.holder c.swapped.result ∙ c.loop-holder.invariant.1)
-
-pub returns : goal.returns
-unfolding relabel
-returns c =
-    rw c.loop-holder.invariant.0 (map_to_all (swap c.args.a c.args.b) c.loop-holder.holder c.args.s.now (omega arith))
+pub loop-label-preserved : goal.loop-label-preserved
+loop-label-preserved c =
+    elim c.if-label-b.branch [
+      | then-label-b w ↦ rw w.label-items-is (changed _ _ _ c.args.s.now (omega arith) (omega arith) c.loop-label.invariant (omega (arith, w.if-label-b.true)))
+      | else-label-b w ↦ rw w.label-items-is (passed _ _ _ c.args.s.now (omega arith) (omega arith) c.loop-label.invariant (omega (arith, w.if-label-b.false)))
+    ]
