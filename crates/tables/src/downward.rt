@@ -260,8 +260,8 @@ pub fn downward(
         feasible.old tally.old feasible.new tally.new result }
 {
     let n = book::kinds(book) as usize;
-    zeros::clear32(feasible, n * MAX_MEMBERS);
-    zeros::clear8(tally, n);
+    zeros::clear(feasible, n * MAX_MEMBERS);
+    zeros::clear(tally, n);
     seed(book, plausible, counts, feasible, tally);
     close_down(book, places, plausible, counts, feasible, tally)
 }

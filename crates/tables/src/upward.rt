@@ -145,7 +145,7 @@ pub fn upward(book: &[u8], places: &[usize], sets: &mut [u32], counts: &mut [u8]
         sets.old counts.old sets.new counts.new result }
 {
     let n = book::kinds(book) as usize;
-    zeros::clear32(sets, n * MAX_MEMBERS);
-    zeros::clear8(counts, n);
+    zeros::clear(sets, n * MAX_MEMBERS);
+    zeros::clear(counts, n);
     close_up(book, places, sets, counts)
 }

@@ -15,14 +15,14 @@ pub seed-requires : goal.seed-requires
 seed-requires c =
     let (a, x, ex, there, here) = c.requires in
     let z = a.lawful.start_in in
-    rw (told_start a) (fine_placed ex.fine _ z, omega (arith, c.clear32.auto.s), omega (arith, c.clear8.auto.s))
+    rw (told_start a) (fine_placed ex.fine _ z, omega (arith, c.clear.auto.s), omega (arith, c.clear-2.auto.s))
 
 pub close_down-requires : goal.close_down-requires
 close_down-requires c =
     let (a, x, ex, there, here) = c.requires in
     let n : c.kinds-n.result ≡ kinds c.args.book.now = c.kinds-n.ensures ∙ told_kinds a in
-    let e = clears (c.kinds-n.result * max_members) c.args.feasible.now (omega arith) c.clear32.ensures ∙ ap (λ (k : ℕ). cleared (k * max_members) c.args.feasible.now) n in
-    let f = clears c.kinds-n.result c.args.tally.now (omega arith) c.clear8.ensures ∙ ap (λ (k : ℕ). cleared k c.args.tally.now) n in
+    let e = clears (c.kinds-n.result * max_members) c.args.feasible.now (omega arith) c.clear.ensures ∙ ap (λ (k : ℕ). cleared (k * max_members) c.args.feasible.now) n in
+    let f = clears c.kinds-n.result c.args.tally.now (omega arith) c.clear-2.ensures ∙ ap (λ (k : ℕ). cleared k c.args.tally.now) n in
     let o = rw (told_start a, e, f) at c.seed.ensures in
     (a, x, ex.fine, down_begun a c.args.feasible.now c.args.tally.now there here ex o)
 
@@ -30,7 +30,7 @@ pub returns : goal.returns
 returns c =
     let (a, x, ex, there, here) = c.requires in
     let n : c.kinds-n.result ≡ kinds c.args.book.now = c.kinds-n.ensures ∙ told_kinds a in
-    let e = clears (c.kinds-n.result * max_members) c.args.feasible.now (omega arith) c.clear32.ensures ∙ ap (λ (k : ℕ). cleared (k * max_members) c.args.feasible.now) n in
-    let f = clears c.kinds-n.result c.args.tally.now (omega arith) c.clear8.ensures ∙ ap (λ (k : ℕ). cleared k c.args.tally.now) n in
+    let e = clears (c.kinds-n.result * max_members) c.args.feasible.now (omega arith) c.clear.ensures ∙ ap (λ (k : ℕ). cleared (k * max_members) c.args.feasible.now) n in
+    let f = clears c.kinds-n.result c.args.tally.now (omega arith) c.clear-2.ensures ∙ ap (λ (k : ℕ). cleared k c.args.tally.now) n in
     let o = rw (told_start a, e, f) at c.seed.ensures in
     down_outcome a c.args.feasible.now c.args.tally.now there here ex o c.close_down.ensures

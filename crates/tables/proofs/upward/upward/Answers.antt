@@ -16,14 +16,14 @@ pub close_up-requires : goal.close_up-requires
 close_up-requires c =
     let (a, x, there, here) = c.requires in
     let n : c.kinds-n.result ≡ kinds c.args.book.now = c.kinds-n.ensures ∙ told_kinds a in
-    let e = clears (c.kinds-n.result * max_members) c.args.sets.now (omega arith) c.clear32.ensures ∙ ap (λ (k : ℕ). cleared (k * max_members) c.args.sets.now) n in
-    let f = clears c.kinds-n.result c.args.counts.now (omega arith) c.clear8.ensures ∙ ap (λ (k : ℕ). cleared k c.args.counts.now) n in
+    let e = clears (c.kinds-n.result * max_members) c.args.sets.now (omega arith) c.clear.ensures ∙ ap (λ (k : ℕ). cleared (k * max_members) c.args.sets.now) n in
+    let f = clears c.kinds-n.result c.args.counts.now (omega arith) c.clear-2.ensures ∙ ap (λ (k : ℕ). cleared k c.args.counts.now) n in
     (a, x, rw (e, f) (cleared_fine (kinds c.args.book.now) c.args.sets.now c.args.counts.now there here (Plausible (grammar c.args.book.now))))
 
 pub returns : goal.returns
 returns c =
     let (a, x, there, here) = c.requires in
     let n : c.kinds-n.result ≡ kinds c.args.book.now = c.kinds-n.ensures ∙ told_kinds a in
-    let e = clears (c.kinds-n.result * max_members) c.args.sets.now (omega arith) c.clear32.ensures ∙ ap (λ (k : ℕ). cleared (k * max_members) c.args.sets.now) n in
-    let f = clears c.kinds-n.result c.args.counts.now (omega arith) c.clear8.ensures ∙ ap (λ (k : ℕ). cleared k c.args.counts.now) n in
+    let e = clears (c.kinds-n.result * max_members) c.args.sets.now (omega arith) c.clear.ensures ∙ ap (λ (k : ℕ). cleared (k * max_members) c.args.sets.now) n in
+    let f = clears c.kinds-n.result c.args.counts.now (omega arith) c.clear-2.ensures ∙ ap (λ (k : ℕ). cleared k c.args.counts.now) n in
     up_outcome a there here (rw (e, f) at c.close_up.ensures)
