@@ -1,9 +1,9 @@
 -- What the check's answer says, in the paper's numbers.
-use Rattle.std.specs.Prelude.{[], ◌∷◌}
-use Rattle.lists.specs.Refusals.{Said, accepted, refused}
-use Rattle.sheet.specs.declared.SheetChecked.{SheetChecked}
-use Rattle.sheet.specs.declared.SheetChecked.TheVariants.{Accepted, Refused}
+use Rattle.std.specs.Prelude.{[], ◌∷◌, Result}
+use Rattle.lists.specs.Refusals.{Said}
+use Rattle.refusals.specs.Table.{said_by}
+use Rattle.refusals.specs.declared.Refused.{Refused}
+use Rattle.sheet.specs.declared.Counts.{Counts}
 
-abbrev pub said : SheetChecked → Said
-said (Accepted nodes settings) = accepted (nodes ∷ settings ∷ [])
-said (Refused number place) = refused number place
+abbrev pub said : Result Counts Refused → Said
+said = said_by (λ c. c.nodes ∷ c.settings ∷ [])

@@ -1,8 +1,8 @@
-use Rattle.sheet.proofs.Answers.{book_sound, book_stops}
+use Rattle.std.proofs.Common.{rules}
+use Rattle.sheet.proofs.Refusals.{book_refused}
 use Rattle.sheet.proofs.check_sheet.Goals as goal
 
-pub read-requires : goal.read-requires
-read-requires c = book_sound _ c.check_book.ensures c.in-Accepted.is
-
-pub returns-in-Refused : goal.returns-in-Refused
-returns-in-Refused c = book_stops _ c.check_book.ensures _ c.in-Refused.is
+pub returns-in_err-check_book : goal.returns-in_err-check_book
+returns-in_err-check_book c =
+    let due = book_refused c.args.sheet.now c.in_err-check_book.ensures in
+    search (rules, due)
