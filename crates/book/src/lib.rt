@@ -11,51 +11,27 @@ ghost use Rattle.book.specs.Format.{arity_at, left_at, after_kids, pairs_at, pai
 ghost use Rattle.chains.specs.Limits.{max_prods};
 ghost use Rattle.book.specs.Reading.{told, settings_of, mask_of, kid_at, kind_in, to_at, from_at, following, Index};
 
-fn wide(x: u8) -> usize
-    ensures { (result ≡ x) × (result < 256) }
-{
-    x as usize
-}
-
-fn word(x: u8) -> u16
-    ensures { (result ≡ x) × (result < 256) }
-{
-    x as u16
-}
-
-fn span(x: u16) -> usize
-    ensures { (result ≡ x) × (result < 65536) }
-{
-    x as usize
-}
+use limits::TRAILER;
 
 // The byte `off` bytes after `at`, or 0 past the end.
 fn byte(book: &[u8], at: usize, off: usize) -> u8
     ensures { result ≡ get_or book.now (at + off) 0 }
 {
-    let n = book.len();
-    if n <= at {
-        return 0;
-    }
-    if n - at <= off {
-        return 0;
-    }
-    book[at + off]
+    book.get(at..)
+        .and_then(|entry| entry.get(off))
+        .copied()
+        .unwrap_or(0)
 }
 
 // Field `i` of the trailer, the low byte first, or 0 where there is none.
 pub fn field(book: &[u8], i: usize) -> u16
     ensures { result ≡ told book.now i }
 {
-    let n = book.len();
-    if n < limits::TRAILER {
+    let Some(trailer) = book.last_chunk::<TRAILER>() else {
         return 0;
-    }
-    if limits::FIELDS <= i {
-        return 0;
-    }
-    let at = n - limits::TRAILER + 2 * i;
-    word(book[at]) + 256 * word(book[at + 1])
+    };
+    let (fields, _) = trailer.as_chunks::<2>();
+    fields.get(i).copied().map_or(0, u16::from_le_bytes)
 }
 
 pub fn kinds(book: &[u8]) -> u16
@@ -80,14 +56,14 @@ pub fn start(book: &[u8]) -> u16
 pub fn settings(book: &[u8], kind: u8) -> u8
     ensures { result ≡ settings_of book.now kind }
 {
-    byte(book, 2 * wide(kind), 0)
+    byte(book, 2 * usize::from(kind), 0)
 }
 
 // A kind's mask: bit i is set when setting i is inherited.
 pub fn mask(book: &[u8], kind: u8) -> u8
     ensures { result ≡ mask_of book.now kind }
 {
-    byte(book, 2 * wide(kind), 1)
+    byte(book, 2 * usize::from(kind), 1)
 }
 
 // The left kind of the production whose entry stands at `at`.
@@ -108,7 +84,7 @@ pub fn arity(book: &[u8], at: usize) -> u8
 pub fn kid(book: &[u8], at: usize, j: u8) -> u8
     ensures { result ≡ kid_at book.now at j }
 {
-    byte(book, at, 2 + wide(j))
+    byte(book, at, 2 + usize::from(j))
 }
 
 // The kind of its slot `s`: 0 is the left kind, then the children.
@@ -116,23 +92,26 @@ pub fn kind_in(book: &[u8], at: usize, s: u8) -> u8
     ensures { result ≡ kind_in book.now at s }
 {
     if s == 0 {
-        return left(book, at);
+        left(book, at)
+    } else {
+        kid(book, at, s - 1)
     }
-    kid(book, at, s - 1)
 }
 
 // How far behind `at` its children end: the number of its pairs stands there, then the pairs.
 fn behind_kids(book: &[u8], at: usize) -> usize
-    ensures { (at + result ≡ after_kids book.now at) × (result < 2 + 256) }
+    ensures place { at + result ≡ after_kids book.now at }
+    ensures near { result < 2 + 256 }
 {
-    2 + wide(arity(book, at))
+    2 + usize::from(arity(book, at))
 }
 
 // How far behind `at` its pair `i` stands.
 fn pair_offset(book: &[u8], at: usize, i: u8) -> usize
-    ensures { (at + result ≡ pair_place book.now at i) × (result ≤ entry_most) }
+    ensures place { at + result ≡ pair_place book.now at i }
+    ensures near { result ≤ entry_most }
 {
-    behind_kids(book, at) + 1 + 2 * wide(i)
+    behind_kids(book, at) + 1 + 2 * usize::from(i)
 }
 
 // Its number of pairs.
@@ -160,16 +139,14 @@ pub fn from(book: &[u8], at: usize, i: u8) -> u8
 pub fn next(book: &[u8], at: usize) -> usize
     ensures { result ≡ following book.now at }
 {
-    if book.len() <= at {
-        return 0;
-    }
-    step(book, at)
+    if at < book.len() { step(book, at) } else { 0 }
 }
 
 // The same where the sum is known to fit.
 fn step(book: &[u8], at: usize) -> usize
     requires { at ≤ length book.now + max_prods * entry_most }
-    ensures { (result ≡ next_at book.now at) × (result ≤ at + entry_most) }
+    ensures place { result ≡ next_at book.now at }
+    ensures near { result ≤ at + entry_most }
 {
     at + pair_offset(book, at, pairs(book, at))
 }
@@ -178,37 +155,20 @@ fn step(book: &[u8], at: usize) -> usize
 pub fn first_entry(book: &[u8]) -> usize
     ensures { result ≡ entry book.now 0 }
 {
-    let n = book.len();
-    let back = span(field(book, 5));
-    if n < limits::TRAILER + back {
-        return 0;
-    }
-    n - limits::TRAILER - back
-}
-
-// How many entries there are to walk.
-fn entries(book: &[u8]) -> usize
-    ensures { result ≡ min (told book.now 2) max_prods }
-{
-    let n = productions(book);
-    if limits::MAX_PRODUCTIONS < n {
-        return span(limits::MAX_PRODUCTIONS);
-    }
-    span(n)
+    let back = usize::from(field(book, 5));
+    book.len().saturating_sub(TRAILER + back)
 }
 
 // The places of all entries, found in one walk.
 pub fn index(book: &[u8]) -> [usize; limits::MAX_PRODUCTIONS as usize]
     ensures { Index book.now result }
 {
-    let n = entries(book);
-    let mut places = [0usize; limits::MAX_PRODUCTIONS as usize];
+    let n = usize::from(productions(book).min(limits::MAX_PRODUCTIONS));
+    let mut places = [0; limits::MAX_PRODUCTIONS as usize];
     let mut at = first_entry(book);
-    let mut p = 0;
-    while p < n {
-        places[p] = at;
+    for place in &mut places[..n] {
+        *place = at;
         at = step(book, at);
-        p += 1;
     }
     places
 }

@@ -9,7 +9,7 @@ use Rattle.chains.specs.Grammar.{Tie}
 use Rattle.book.specs.Format.{left_at, arity_at, after_kids, kids_at, pairs_at, bytes_at, occ, ties_of}
 use Rattle.book.specs.Reading.{kid_at, to_at, from_at, pair_at, kind_in}
 use Rattle.bookcheck.specs.Search.{Stands}
-use Rattle.book.proofs.Bytes.{length_part, get_d_part}
+use Rattle.lists.proofs.Parts.{length_part, get_d_part}
 
 -- what stands where a list of ties has ended; no law depends on it
 abbrev pub no_tie : Tie
@@ -36,7 +36,7 @@ module _ {b : List ℕ} {at : ℕ} (s : Stands b at) where
   kids_long = length_part (at + 2) (arity_at b at) b (omega (arith, s.laid.whole))
 
   pub kid_is : (j : ℕ) → j < arity_at b at → kid_at b at j ≡ get_or (kids_at b at) j 0
-  kid_is j h = sym (get_d_part (at + 2) (arity_at b at) b j h)
+  kid_is j h = sym (get_d_part (at + 2) (arity_at b at) b j 0 h)
 
   pub kind_in_is : (t : ℕ) → t < length (left_at b at ∷ kids_at b at) → kind_in b at t ≡ get_or (left_at b at ∷ kids_at b at) t 0
   kind_in_is zero h = refl
@@ -54,7 +54,7 @@ module _ {b : List ℕ} {at : ℕ} (s : Stands b at) where
   tie_is i h =
       let a = after_kids b at + 1 in
       let d = 2 * pairs_at b at in
-      let u : to_at b at i ≡ get_or (bytes_at b at) (2 * i) 0 = sym (get_d_part a d b (2 * i) (omega arith)) in
+      let u : to_at b at i ≡ get_or (bytes_at b at) (2 * i) 0 = sym (get_d_part a d b (2 * i) 0 (omega arith)) in
       let k : a + (2 * i + 1) ≡ a + 2 * i + 1 = omega arith in
-      let v : from_at b at i ≡ get_or (bytes_at b at) (2 * i + 1) 0 = ap (λ n. get_or b n 0) (sym k) ∙ sym (get_d_part a d b (2 * i + 1) (omega arith)) in
+      let v : from_at b at i ≡ get_or (bytes_at b at) (2 * i + 1) 0 = ap (λ n. get_or b n 0) (sym k) ∙ sym (get_d_part a d b (2 * i + 1) 0 (omega arith)) in
       ap₂ (λ x y. (occ x, occ y)) u v ∙ sym (tie_of (bytes_at b at) i (omega (arith, bytes_long)))

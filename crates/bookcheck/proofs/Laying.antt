@@ -14,8 +14,7 @@ use Rattle.book.specs.Format.{trailer_bytes, trailer, field, kinds, prods, start
 use Rattle.book.specs.Reading.{told, settings_of, mask_of, following}
 use Rattle.bookcheck.specs.Refusals.{OutOfRange}
 use Rattle.bookcheck.specs.Search.{Tells}
-use Rattle.book.proofs.Bytes.{following_is}
-use Rattle.book.proofs.Places.{entry_first}
+use Rattle.book.proofs.Places.{following_is, entry_first}
 
 pub told_is : (b : List ℕ) (i : ℕ) → trailer_bytes ≤ length b → told b i ≡ field b i
 told_is b i h = rw (le-ltb (length b) trailer_bytes h)

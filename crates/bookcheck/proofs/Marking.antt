@@ -14,8 +14,7 @@ use Rattle.bookcheck.specs.Refusals.{Headless}
 use Rattle.bookcheck.specs.Search.{Tells, Marks, Markable}
 use Rattle.bookcheck.proofs.Answers.{tells_eq}
 use Rattle.bookcheck.proofs.Laying.{inside}
-use Rattle.book.proofs.Bytes.{following_is}
-use Rattle.book.proofs.Places.{entry_first, entry_next}
+use Rattle.book.proofs.Places.{following_is, entry_first, entry_next}
 
 -- p of the m entries are passed, and the next one stands at `at`
 pub record Marking (b : List ℕ) (m : ℕ) (marks : List ℕ) (at p : ℕ) : Type 0 where

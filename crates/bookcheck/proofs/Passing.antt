@@ -12,8 +12,7 @@ use Rattle.bookcheck.specs.Refusals.{BadKids, BadTies}
 use Rattle.bookcheck.specs.Search.{Tells, Finds, Stands, Bad, alone}
 use Rattle.bookcheck.proofs.Answers.{Seeking, seek_begins, seek_on, seek_found, seek_ends}
 use Rattle.bookcheck.proofs.Laying.{inside}
-use Rattle.book.proofs.Bytes.{following_is}
-use Rattle.book.proofs.Places.{entry_first, entry_next}
+use Rattle.book.proofs.Places.{following_is, entry_first, entry_next}
 
 -- the p entries before the one at `at` are not refused
 pub record Passing (b : List ℕ) (row : Row) (m at p : ℕ) : Type 0 where

@@ -2,8 +2,5 @@ use native.Mathlib.Omega.{arith}
 use Rattle.book.proofs.Places.{first_told}
 use Rattle.book.proofs.first_entry.Goals as goal
 
-pub returns-then-n-back : goal.returns-then-n-back
-returns-then-n-back c = omega (arith, first_told c.args.book.now)
-
 pub returns : goal.returns
 returns c = omega (arith, first_told c.args.book.now)

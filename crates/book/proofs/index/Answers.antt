@@ -1,11 +1,12 @@
+use native.Mathlib.Omega.{arith}
 use Rattle.book.proofs.Places.{walk_begins, walk_goes, walk_ends}
 use Rattle.book.proofs.index.Goals as goal
 
-pub loop-p-init : goal.loop-p-init
-loop-p-init c = walk_begins _ _ _ c.entries-n.ensures c.first_entry-at.ensures
+pub loop-place-init : goal.loop-place-init
+loop-place-init c = walk_begins _ _ _ (cc) c.first_entry-at.ensures
 
-pub loop-p-preserved : goal.loop-p-preserved
-loop-p-preserved c = walk_goes _ c.loop-p.invariant c.loop-p-test.true c.step-at.ensures.0 c.step-at.ensures.1
+pub loop-place-preserved : goal.loop-place-preserved
+loop-place-preserved c = walk_goes _ c.loop-place.invariant (omega arith) c.step-at.ensures.place c.step-at.ensures.near
 
 pub returns : goal.returns
-returns c = walk_ends c.loop-p.invariant c.loop-p-test.false
+returns c = walk_ends c.loop-place.invariant (omega arith)
