@@ -1,4 +1,4 @@
--- Slices measured against the kinds: one of them is too short, or all have room.
+-- Slices measured against the kinds: one of them is too short, or all have room, and not both.
 use mathlib.Core.Path.{◌≡◌}
 use mathlib.Core.Logic.{inl, inr}
 use mathlib.Core.Bool.{Bool, true, false}
@@ -6,13 +6,6 @@ use Prim.Native.Nat.{ℕ}
 use native.Mathlib.Omega.{arith}
 use Rattle.members.specs.Room.{TooShort, Roomy, Measured}
 
-pub measured_short : {n a b c d : ℕ} → TooShort n a b c d → Measured n a b c d true
-measured_short h = record { short = λ e. h; roomy = λ e. let z : ◌≡◌ {A = ℕ} 0 1 = cc in absurd (omega arith) }
-
-pub measured_roomy : {n a b c d : ℕ} → Roomy n a b c d → Measured n a b c d false
-measured_roomy r = record { short = λ e. let z : ◌≡◌ {A = ℕ} 0 1 = cc in absurd (omega arith); roomy = λ e. r }
-
--- not both
 apart : {n a b c d : ℕ} → TooShort n a b c d → Roomy n a b c d → ⊥
 apart (inl h) r = omega (arith, r.plausible)
 apart (inr (inl h)) r = omega (arith, r.plausible_counts)
