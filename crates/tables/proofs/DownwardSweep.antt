@@ -1,11 +1,13 @@
 -- A production's turn in a sweep of the downward pass, the sweep, and the pass.
 use mathlib.Core.Path.{◌≡◌, sym, ap}
 use mathlib.Core.Logic.{inl, inr}
-use mathlib.Core.Bool.{Bool}
+use mathlib.Core.Bool.{Bool, false}
 use mathlib.Core.List.{List}
 use Prim.Native.Nat.{ℕ, suc, ◌+◌, ◌*◌, ◌≤◌, ◌<◌}
 use native.Mathlib.Omega.{arith}
 use lib.ListN.{length, get_or, set, replicate, get_or-replicate}
+use Rattle.std.specs.Prelude.{Result, Ok}
+use Rattle.std.proofs.lemmas.Result.{on_ok_weaker}
 use Rattle.chains.specs.Limits.{max_prods, max_members}
 use Rattle.chains.specs.Plausible.{Plausible}
 use Rattle.chains.specs.Feasible.{Feasible}
@@ -18,8 +20,7 @@ use Rattle.zeros.specs.Zeros.{cleared}
 use Rattle.tables.specs.Visit.{Gathered, OldOr}
 use Rattle.tables.specs.Sweep.{Since, total, Attended, Swept, Exact, Outcome}
 use Rattle.tables.specs.Downward.{DownStep, down_into, down_watch, DownServed, DownMarks, DownSwept, DownClosed, Seeded}
-use Rattle.members.specs.declared.Turn.{Turn}
-use Rattle.members.specs.declared.Turn.TheVariants.{Still}
+use Rattle.members.specs.declared.Full.{Full}
 use Rattle.tables.proofs.Memory.{kept_trans, turned_map, Lasts}
 use Rattle.tables.proofs.Holds.{fine_holds}
 use Rattle.tables.proofs.Gathering.{turned_widen}
@@ -53,7 +54,7 @@ module _ {b : List ℕ} (a : Accepted b) (p : ℕ) (l : p < prods b) (s c f₀ d
           says,
         ))
 
-    pub down_visited : Kept (kinds b) f₀ d₀ f d → {j : ℕ} → j < length ((grammar b).kids p) → {f' d' : List ℕ} {r : Turn}
+    pub down_visited : Kept (kinds b) f₀ d₀ f d → {j : ℕ} → j < length ((grammar b).kids p) → {f' d' : List ℕ} {r : Result Bool Full}
         → Turned (kinds b) (OldOr f d (down_into b p j) (DownStep b s c p j (Has f d))) (Gathered (down_into b p j) (DownStep b s c p j (Has f d)) f' d') f d f' d' r
         → Turned (kinds b) (Feasible (grammar b)) (DownVisit b s c p f₀ d₀ f' d' j) f d f' d' r
     down_visited w {j} h {r = r} u =
@@ -66,18 +67,18 @@ module _ {b : List ℕ} (a : Accepted b) (p : ℕ) (l : p < prods b) (s c : List
   watched = omega (arith, total_more d (down_watch b p) 0, total_none d (down_watch b p))
 
   -- it is passed over
-  pub down_spared : get_or marks p 0 ≡ mark → Attended (kinds b) (Feasible (grammar b)) (DownServed b s c p f d f d) (DownMarks b s c marks) f d f d Still
+  pub down_spared : get_or marks p 0 ≡ mark → Attended (kinds b) (Feasible (grammar b)) (DownServed b s c p f d f d) (DownMarks b s c marks) f d f d (Ok false)
   down_spared =
       spared (kinds b) (prods b) (λ q. length ((grammar b).kids q)) (λ q. 1) (DownStep b s c) (down_into b) (down_watch b) marks l g old watched
       (λ i h. a.lawful.left_in p l) (λ j h. down_watches b s c p j)
 
   -- it is served
-  pub down_attended : {f' d' marks' : List ℕ} {r : Turn} → length marks ≡ max_prods → marks' ≡ set marks p mark
+  pub down_attended : {f' d' marks' : List ℕ} {r : Result Bool Full} → length marks ≡ max_prods → marks' ≡ set marks p mark
       → Turned (kinds b) (Feasible (grammar b)) (DownServed b s c p f d f' d') f d f' d' r
       → Attended (kinds b) (Feasible (grammar b)) (DownServed b s c p f d f' d') (DownMarks b s c marks') f d f' d' r
-  down_attended long m u =
+  down_attended {r = r} long m u =
       attended (kinds b) (prods b) (λ q. length ((grammar b).kids q)) (λ q. 1) (DownStep b s c) (down_into b) (down_watch b) marks l g old watched
-      (λ q j h k. a.lawful.kids_in q j h k) (omega (arith, a.few_prods)) m u
+      (λ q j h k. a.lawful.kids_in q j h k) (omega (arith, a.few_prods)) r m u
 
 -- ---- the sweep
 -- what the turn of production p is to bring about, from f₀, d₀ on
@@ -107,11 +108,11 @@ module _ {b : List ℕ} (a : Accepted b) (f₀ d₀ : List ℕ) {s c f d : List 
   down_begun = seeded_fine f₀ d₀ there here a.lawful.start_in e.fine o (λ x h. (feasible_sound (grammar b)).at_start x h)
 
   -- THEOREM: sweeps from the start's plausible groupings come to exactly the feasible ones, or to a 65th
-  pub down_outcome : {f' d' : List ℕ} {r : Bool} → Swept (kinds b) (Feasible (grammar b)) (DownClosed b s c f' d') f d f' d' r
+  pub down_outcome : {f' d' : List ℕ} {r : Result (Unit {0}) Full} → Swept (kinds b) (Feasible (grammar b)) (DownClosed b s c f' d') f d f' d' r
       → Outcome (kinds b) (Feasible (grammar b)) f₀ d₀ f' d' r
-  down_outcome {f'} {d'} w = record {
-    holds = λ z. fine_holds there here (kept_trans (seeded_kept f₀ d₀ there here a.lawful.start_in e.fine o) w.kept) w.fine
-        (λ k x h. feasible_complete (grammar b) (Has f' d') (closed (w.closed z)) k x);
+  down_outcome {f'} {d'} {r} w = record {
+    holds = on_ok_weaker r (λ q. fine_holds there here (kept_trans (seeded_kept f₀ d₀ there here a.lawful.start_in e.fine o) w.kept) w.fine
+        (λ k x h. feasible_complete (grammar b) (Has f' d') (closed q) k x)) w.closed;
     over = w.over;
   }
     where

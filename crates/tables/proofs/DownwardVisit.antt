@@ -9,6 +9,7 @@ use native.Mathlib.Decide.{ℕ_discrete, dec_lt}
 use borrow.Author.Tests.{eq-eqb, ne_eqb, lt-ltb, le-ltb}
 use lib.Dec.{eqb}
 use lib.ListN.{length, get_or}
+use Rattle.std.specs.Prelude.{Result}
 use Rattle.lists.specs.Pick.{pick}
 use Rattle.lists.proofs.Order.{by_order}
 use Rattle.chains.specs.Grammar.{slots}
@@ -23,7 +24,7 @@ use Rattle.tables.specs.Memory.{Fine, Turned}
 use Rattle.tables.specs.State.{based}
 use Rattle.tables.specs.Visit.{max_turns, Yields, Gathered, OldOr, Gathers, Opening, Prepared}
 use Rattle.tables.specs.Downward.{slot_down, given}
-use Rattle.members.specs.declared.Turn.{Turn}
+use Rattle.members.specs.declared.Full.{Full}
 use Rattle.tables.specs.declared.gather.Visit.{Visit}
 use Rattle.tables.proofs.Memory.{fine_placed}
 use Rattle.tables.proofs.Gathering.{gathers_map}
@@ -127,7 +128,7 @@ module _ {b : List ℕ} (a : Accepted b) (p : ℕ) (l : p < prods b) where
         (λ m. e.0 (y.0 m), λ m. y.1 (e.1 m))
 
     -- THEOREM: a visit puts in what the downward step gives on the child's slot
-    pub down_gathers : {f' d' : List ℕ} {r : Turn} → Gathers v.kind (Yields v u (suc (arity_at b (entry b p))) (based b (entry b p))) f d f' d' r
+    pub down_gathers : {f' d' : List ℕ} {r : Result Bool Full} → Gathers v.kind (Yields v u (suc (arity_at b (entry b p))) (based b (entry b p))) f d f' d' r
         → Turned (kinds b) (OldOr f d (get_or ((grammar b).kids p) j 0) (StepDown (grammar b) (Has f d) (Has s c) p (suc j)))
         (Gathered (get_or ((grammar b).kids p) j 0) (StepDown (grammar b) (Has f d) (Has s c) p (suc j)) f' d') f d f' d' r
     down_gathers {f'} {d'} {r} m =

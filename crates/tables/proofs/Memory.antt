@@ -1,11 +1,13 @@
 -- The sets while they are worked out: what a member put in leaves as it was, what it gains, and the loops of such steps.
 use mathlib.Core.Path.{◌≡◌, refl, sym, ap, ◌∙◌, subst, subst₂}
 use mathlib.Core.Logic.{⊎_elim}
+use mathlib.Core.Bool.{Bool, true, false}
 use mathlib.Core.List.{List}
 use Prim.Native.Nat.{ℕ, suc, ◌+◌, ◌*◌, ◌≤◌, ◌<◌}
 use native.Mathlib.Omega.{arith}
 use native.Mathlib.Decide.{ℕ_discrete}
 use lib.ListN.{length, get_or, length-set}
+use Rattle.std.specs.Prelude.{Result, Ok, Err}
 use lib.Seq.{get_or-set_same, get_or-set_other}
 use Rattle.lists.specs.Rising.{Rising, insert}
 use Rattle.lists.proofs.Order.{apart}
@@ -17,8 +19,7 @@ use Rattle.chains.specs.Limits.{max_members}
 use Rattle.members.specs.Sets.{members, Has, member, Placed, Grown, Put}
 use Rattle.tables.specs.Sets.{Over}
 use Rattle.tables.specs.Memory.{Fine, Kept, Turned, room}
-use Rattle.members.specs.declared.Turn.{Turn}
-use Rattle.members.specs.declared.Turn.TheVariants.{Still, Added, Full}
+use Rattle.members.specs.declared.Full.{Full}
 use Rattle.members.proofs.Ranked.{members_long}
 
 -- ── what is in order ──
@@ -159,23 +160,23 @@ pub same_kept : {n : ℕ} {s c s' c' : List ℕ} → s' ≡ s → c' ≡ c → K
 same_kept {n} {s} {c} a b = subst₂ (Kept n s c) (sym a) (sym b) (kept_refl n s c)
 
 -- THEOREM: what has P, put into its kind's set, is there afterwards, and all is in order; or there is one more than a set can hold
-pub put_turned : {n : ℕ} {P : ℕ → ℕ → Type 0} {s c s' c' : List ℕ} {k x : ℕ} (r : Turn) → Fine n P s c → k < n → P k x → Put k x s c s' c' r
+pub put_turned : {n : ℕ} {P : ℕ → ℕ → Type 0} {s c s' c' : List ℕ} {k x : ℕ} (r : Result Bool Full) → Fine n P s c → k < n → P k x → Put k x s c s' c' r
     → Turned n P (Has s' c' k x) s c s' c' r
-put_turned {k = k} {x} Still f h px i =
+put_turned {k = k} {x} (Ok false) f h px i =
     let (a, b, m) = (i.there (fine_placed f k h)).case in
     record { fine = same_fine a b f; kept = same_kept a b; case = (a, b, subst₂ (λ s c. Has s c k x) (sym a) (sym b) m) }
-put_turned Added f h px i =
+put_turned (Ok true) f h px i =
     let G = (i.there (fine_placed f _ h)).case in
     record { fine = grown_fine f h px G; kept = grown_kept f h px G; case = (falls (fine_placed f _ h) (f.rising _ h) G, grown_has f h px G) }
-put_turned Full f h px i =
-    let (a, b, e, new) = (i.there (fine_placed f _ h)).case in
-    record { fine = same_fine a b f; kept = same_kept a b; case = over_full f h px e new }
+put_turned (Err e) f h px i =
+    let (a, b, q, new) = (i.there (fine_placed f _ h)).case in
+    record { fine = same_fine a b f; kept = same_kept a b; case = over_full f h px q new }
 
 -- ── steps in a row ──
-pub turned_map : {n : ℕ} {P : ℕ → ℕ → Type 0} {D E : Type 0} {s c s' c' : List ℕ} (r : Turn) → (D → E) → Turned n P D s c s' c' r → Turned n P E s c s' c' r
-turned_map Still g u = let (a, b, d) = u.case in record { fine = u.fine; kept = u.kept; case = (a, b, g d) }
-turned_map Added g u = let (a, d) = u.case in record { fine = u.fine; kept = u.kept; case = (a, g d) }
-turned_map Full g u = record { fine = u.fine; kept = u.kept; case = u.case }
+pub turned_map : {n : ℕ} {P : ℕ → ℕ → Type 0} {D E : Type 0} {s c s' c' : List ℕ} (r : Result Bool Full) → (D → E) → Turned n P D s c s' c' r → Turned n P E s c s' c' r
+turned_map (Ok false) g u = let (a, b, d) = u.case in record { fine = u.fine; kept = u.kept; case = (a, b, g d) }
+turned_map (Ok true) g u = let (a, d) = u.case in record { fine = u.fine; kept = u.kept; case = (a, g d) }
+turned_map (Err e) g u = record { fine = u.fine; kept = u.kept; case = u.case }
 
 -- what holds of the sets holds of them when they have grown
 abbrev pub Lasts : ℕ → (List ℕ → List ℕ → ℕ → Type 0) → Type 0

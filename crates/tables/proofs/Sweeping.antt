@@ -2,7 +2,7 @@
 -- hold on.
 use mathlib.Core.Path.{◌≡◌, refl, sym, ap, ap₂, ◌∙◌, subst}
 use mathlib.Core.Logic.{inl, inr}
-use mathlib.Core.Bool.{true, false, true≢false}
+use mathlib.Core.Bool.{Bool, true, false}
 use mathlib.Core.List.{List, Memᴰ}
 use Prim.Native.Nat.{ℕ, zero, suc, ◌+◌, ◌*◌, ◌≤◌, ◌<◌}
 use native.Mathlib.Numerals.{add-one}
@@ -10,6 +10,7 @@ use native.Mathlib.Omega.{arith}
 use native.Mathlib.Decide.{ℕ_discrete}
 use lib.ListN.{length, get_or, set}
 use lib.Seq.{get_or-set_same, get_or-set_other}
+use Rattle.std.specs.Prelude.{Result, Ok, Err}
 use Rattle.lists.proofs.Order.{by_order}
 use Rattle.chains.specs.Limits.{max_prods, max_members}
 use Rattle.members.specs.Sets.{Has}
@@ -17,8 +18,7 @@ use Rattle.tables.specs.Sets.{Holds}
 use Rattle.tables.specs.Memory.{Fine, Kept, Turned, room}
 use Rattle.tables.specs.Visit.{Gathered}
 use Rattle.tables.specs.Sweep.{Since, Served, total, Marked, Attended, Swept, Exact}
-use Rattle.members.specs.declared.Turn.{Turn}
-use Rattle.members.specs.declared.Turn.TheVariants.{Still, Added, Full}
+use Rattle.members.specs.declared.Full.{Full}
 use Rattle.tables.proofs.Memory.{kept_refl, kept_trans, equal_counts}
 use Rattle.tables.proofs.Rounds.{turned_done}
 use Rattle.tables.proofs.Holds.{holds_fine}
@@ -136,16 +136,17 @@ module _ (n prods : ℕ) (m w : ℕ → ℕ) (step : ℕ → ℕ → (ℕ → �
       (e : mark ≡ suc (total c (watch p) (w p))) where
     -- THEOREM: it may be passed over where its mark is what it would be now
     pub spared : ((i : ℕ) → i < w p → watch p i < n) → ((j : ℕ) → j < m p → Watches (step p j) (watch p) (w p)) → get_or marks p 0 ≡ mark
-        → Attended n P (Served n (m p) (step p) (into p) s c s c) (AllMarked marks) s c s c Still
+        → Attended n P (Served n (m p) (step p) (into p) s c s c) (AllMarked marks) s c s c (Ok false)
     spared known local q = record {
       turned = record { fine = f; kept = kept_refl n s c; case = (refl, refl, marked_served f known local (q ∙ e) (old p l)) };
-      marked = λ z. old;
+      marked = old;
     }
 
     -- THEOREM: once it is served it may be marked
-    pub attended : ((q j : ℕ) → q < prods → j < m q → into q j < n) → prods ≤ length marks → {s' c' marks' : List ℕ} {r : Turn} → marks' ≡ set marks p mark
+    pub attended : ((q j : ℕ) → q < prods → j < m q → into q j < n) → prods ≤ length marks → {s' c' marks' : List ℕ} (r : Result Bool Full) → marks' ≡ set marks p mark
         → Turned n P (Served n (m p) (step p) (into p) s c s' c') s c s' c' r → Attended n P (Served n (m p) (step p) (into p) s c s' c') (AllMarked marks') s c s' c' r
-    attended targets long {s'} {c'} {marks'} {r} z u = record { turned = u; marked = λ n q h. go q h (turned_done r n u) (ℕ_discrete q p) }
+    attended targets long {s'} {c'} {marks'} (Err o) z u = record { turned = u; marked = tt }
+    attended targets long {s'} {c'} {marks'} (Ok r) z u = record { turned = u; marked = λ q h. go q h (turned_done r u) (ℕ_discrete q p) }
       where
         go : (q : ℕ) → q < prods → Served n (m p) (step p) (into p) s c s' c' → Dec (q ≡ p)
             → Marked n (m q) (step q) (into q) (watch q) (w q) (get_or marks' q 0) s' c'
@@ -164,36 +165,20 @@ pub close_begun : {n : ℕ} {P : ℕ → ℕ → Type 0} (Marks : List ℕ → L
 close_begun {n} Marks marks {s} {c} f m l = record { fine = f; kept = kept_refl n s c; marked = m; long = l }
 
 module _ {n : ℕ} {P : ℕ → ℕ → Type 0} {Marks : List ℕ → List ℕ → List ℕ → Type 0} {s₀ c₀ marks s c : List ℕ} (h : Closing n P Marks s₀ c₀ marks s c)
-    {E : Type 0} (marks' : List ℕ) {s' c' : List ℕ} {r : Turn} (u : Attended n P E (Marks marks') s c s' c' r) where
-  as_told : (q : Turn) → r ≡ q → Attended n P E (Marks marks') s c s' c' q
-  as_told q e = subst (Attended n P E (Marks marks') s c s' c') e u
+    {E : Type 0} {marks' s' c' : List ℕ} where
+  pub close_added : Attended n P E (Marks marks') s c s' c' (Ok true) → length marks' ≡ length marks → Closing n P Marks s₀ c₀ marks' s' c'
+  close_added u same = record { fine = u.turned.fine; kept = kept_trans h.kept u.turned.kept; marked = u.marked; long = same ∙ h.long }
 
-  pub close_less : r ≡ Added → room c' < room c
-  close_less e = (as_told Added e).turned.case.0
-
-  pub close_added : length marks' ≡ length marks → r ≡ Added → Closing n P Marks s₀ c₀ marks' s' c'
-  close_added same e = record {
+  pub close_still : {C : Type 0} → (Fine n P s' c' → s' ≡ s → c' ≡ c → E → C) → Attended n P E (Marks marks') s c s' c' (Ok false) → Swept n P C s₀ c₀ s' c' (Ok tt)
+  close_still g u = record {
     fine = u.turned.fine;
     kept = kept_trans h.kept u.turned.kept;
-    marked = (as_told Added e).marked (λ z. let y : ◌≡◌ {A = ℕ} 0 1 = cc in omega arith);
-    long = same ∙ h.long;
+    closed = let (a, b, d) = u.turned.case in g u.turned.fine a b d;
+    over = tt;
   }
 
-  pub close_still : {C : Type 0} → (Fine n P s' c' → s' ≡ s → c' ≡ c → E → C) → r ≡ Still → Swept n P C s₀ c₀ s' c' true
-  close_still g e = record {
-    fine = u.turned.fine;
-    kept = kept_trans h.kept u.turned.kept;
-    closed = λ z. let (a, b, d) = (as_told Still e).turned.case in g u.turned.fine a b d;
-    over = λ z. absurd (true≢false z);
-  }
-
-  pub close_full : {C : Type 0} → r ≡ Full → Swept n P C s₀ c₀ s' c' false
-  close_full e = record {
-    fine = u.turned.fine;
-    kept = kept_trans h.kept u.turned.kept;
-    closed = λ z. absurd (true≢false (sym z));
-    over = λ z. (as_told Full e).turned.case;
-  }
+  pub close_full : {C : Type 0} (e : Full) → Attended n P E (Marks marks') s c s' c' (Err e) → Swept n P C s₀ c₀ s' c' (Err e)
+  close_full e u = record { fine = u.turned.fine; kept = kept_trans h.kept u.turned.kept; closed = tt; over = u.turned.case }
 
 -- ---- a pass after a pass
 -- sets that hold exactly what has P, whatever stood there before

@@ -1,11 +1,13 @@
 -- A production's turn in a sweep of the upward pass.
 use mathlib.Core.Path.{◌≡◌, sym, ap, ◌∙◌}
 use mathlib.Core.Logic.{inl, inr}
-use mathlib.Core.Bool.{Bool}
+use mathlib.Core.Bool.{Bool, false}
 use mathlib.Core.List.{List, [], ◌∷◌}
 use Prim.Native.Nat.{ℕ, suc, ◌*◌, ◌≤◌, ◌<◌}
 use native.Mathlib.Omega.{arith}
 use lib.ListN.{length, get_or, set, replicate, get_or-replicate}
+use Rattle.std.specs.Prelude.{Result, Ok}
+use Rattle.std.proofs.lemmas.Result.{on_ok_weaker}
 use Rattle.chains.specs.Limits.{max_prods, max_members}
 use Rattle.chains.specs.Grouping.{Members}
 use Rattle.chains.specs.Plausible.{Plausible}
@@ -21,8 +23,7 @@ use Rattle.zeros.specs.Zeros.{cleared}
 use Rattle.tables.specs.Visit.{Gathered, OldOr}
 use Rattle.tables.specs.Sweep.{total, Attended, Swept, Outcome}
 use Rattle.tables.specs.Upward.{UpStep, up_into, up_watch, UpServed, UpMarks, UpSwept, UpClosed}
-use Rattle.members.specs.declared.Turn.{Turn}
-use Rattle.members.specs.declared.Turn.TheVariants.{Still}
+use Rattle.members.specs.declared.Full.{Full}
 use Rattle.tables.proofs.Memory.{turned_map, Lasts}
 use Rattle.tables.proofs.Holds.{fine_holds}
 use Rattle.tables.proofs.Gathering.{turned_widen}
@@ -57,15 +58,15 @@ module _ {b : List ℕ} (a : Accepted b) (p : ℕ) (l : p < prods b) where
         ∙ total_agree c (kid_at b (entry b p)) (up_watch b p) (length ((grammar b).kids p)) (λ i h. kid_read a p l i h))
 
     -- it is passed over
-    pub up_spared : get_or marks p 0 ≡ mark → Attended (kinds b) (Plausible (grammar b)) (UpServed b p s c s c) (UpMarks b marks) s c s c Still
+    pub up_spared : get_or marks p 0 ≡ mark → Attended (kinds b) (Plausible (grammar b)) (UpServed b p s c s c) (UpMarks b marks) s c s c (Ok false)
     up_spared = spared (kinds b) (prods b) (λ q. 1) (λ q. length ((grammar b).kids q)) (UpStep b) (up_into b) (up_watch b) marks l f old watched up_known (λ j h. up_watches b p j)
 
     -- it is visited
-    pub up_attended : {s' c' marks' : List ℕ} {r : Turn} → length marks ≡ max_prods → marks' ≡ set marks p mark
+    pub up_attended : {s' c' marks' : List ℕ} {r : Result Bool Full} → length marks ≡ max_prods → marks' ≡ set marks p mark
         → Turned (kinds b) (OldOr s c ((grammar b).left p) (StepUp (grammar b) (Has s c) p)) (Gathered ((grammar b).left p) (StepUp (grammar b) (Has s c) p) s' c') s c s' c' r
         → Attended (kinds b) (Plausible (grammar b)) (UpServed b p s c s' c') (UpMarks b marks') s c s' c' r
     up_attended {r = r} long m u =
-        attended (kinds b) (prods b) (λ q. 1) (λ q. length ((grammar b).kids q)) (UpStep b) (up_into b) (up_watch b) marks l f old watched (λ q j h k. a.lawful.left_in q h) (omega (arith, a.few_prods)) m
+        attended (kinds b) (prods b) (λ q. 1) (λ q. length ((grammar b).kids q)) (UpStep b) (up_into b) (up_watch b) marks l f old watched (λ q j h k. a.lawful.left_in q h) (omega (arith, a.few_prods)) r m
         (turned_map r (λ g j h. since_now (UpStep b p j) f u.kept g) (turned_widen sound r u))
       where
         sound : (k x : ℕ) → k < kinds b → OldOr s c ((grammar b).left p) (StepUp (grammar b) (Has s c) p) k x → Plausible (grammar b) k x
@@ -98,9 +99,9 @@ module _ {b : List ℕ} (a : Accepted b) where
 -- ---- the pass
 module _ {b : List ℕ} (a : Accepted b) {s₀ c₀ : List ℕ} (there : kinds b * max_members ≤ length s₀) (here : kinds b ≤ length c₀) where
   -- THEOREM: sweeps from cleared sets come to exactly the plausible groupings, or to a 65th
-  pub up_outcome : {s c : List ℕ} {r : Bool} → Swept (kinds b) (Plausible (grammar b)) (UpClosed b s c) (cleared (kinds b * max_members) s₀) (cleared (kinds b) c₀) s c r
+  pub up_outcome : {s c : List ℕ} {r : Result (Unit {0}) Full} → Swept (kinds b) (Plausible (grammar b)) (UpClosed b s c) (cleared (kinds b * max_members) s₀) (cleared (kinds b) c₀) s c r
       → Outcome (kinds b) (Plausible (grammar b)) s₀ c₀ s c r
-  up_outcome {s} {c} w = record {
-    holds = λ e. fine_holds there here w.kept w.fine (λ k x h. plausible_complete (grammar b) a.lawful (Has s c) (λ p d l. w.closed e p d l) k x);
+  up_outcome {s} {c} {r} w = record {
+    holds = on_ok_weaker r (λ closed. fine_holds there here w.kept w.fine (λ k x h. plausible_complete (grammar b) a.lawful (Has s c) (λ p d l. closed p d l) k x)) w.closed;
     over = w.over;
   }

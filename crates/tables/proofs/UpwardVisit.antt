@@ -5,6 +5,7 @@ use mathlib.Core.List.{List}
 use Prim.Native.Nat.{ℕ, zero, suc, ◌≤◌, ◌<◌}
 use native.Mathlib.Omega.{arith}
 use lib.ListN.{length, get_or}
+use Rattle.std.specs.Prelude.{Bool, Result}
 use Rattle.chains.specs.Grammar.{slots}
 use Rattle.chains.specs.Gather.{UpTo, CodesOf}
 use Rattle.chains.specs.Steps.{StepUp}
@@ -17,7 +18,7 @@ use Rattle.members.specs.Sets.{Has, Placed}
 use Rattle.tables.specs.Memory.{Fine, Turned}
 use Rattle.tables.specs.State.{based}
 use Rattle.tables.specs.Visit.{Yields, Gathered, OldOr, Gathers, Opening, Prepared}
-use Rattle.members.specs.declared.Turn.{Turn}
+use Rattle.members.specs.declared.Full.{Full}
 use Rattle.tables.specs.declared.gather.Visit.{Visit}
 use Rattle.tables.proofs.Memory.{fine_placed}
 use Rattle.tables.proofs.Gathering.{gathers_map}
@@ -62,7 +63,7 @@ module _ {b : List ℕ} (a : Accepted b) (p : ℕ) (l : p < prods b) where
         (λ m. g.0 (y.0 m), λ m. y.1 (g.1 m))
 
     -- THEOREM: a visit puts in what the upward step gives
-    pub up_gathers : {s' c' : List ℕ} {r : Turn} → Gathers v.kind (Yields v u (arity_at b (entry b p)) (based b (entry b p))) s c s' c' r
+    pub up_gathers : {s' c' : List ℕ} {r : Result Bool Full} → Gathers v.kind (Yields v u (arity_at b (entry b p)) (based b (entry b p))) s c s' c' r
         → Turned (kinds b) (OldOr s c ((grammar b).left p) (StepUp (grammar b) (Has s c) p)) (Gathered ((grammar b).left p) (StepUp (grammar b) (Has s c) p) s' c') s c s' c' r
     up_gathers {s'} {c'} {r} g =
         subst (λ k. Gathers k (StepUp (grammar b) (Has s c) p) s c s' c' r) kind_is (gathers_map yields_up g) (kinds b) (a.lawful.left_in p l) f

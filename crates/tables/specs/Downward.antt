@@ -1,5 +1,5 @@
 -- The downward pass over an accepted book with its plausible sets s, counted by c, as its sweeps go.
-use Rattle.std.specs.Prelude.{◌≡◌, List, ℕ, suc, ◌-◌, ◌*◌, ◌<◌, eqb, ltb, length, get_or, set}
+use Rattle.std.specs.Prelude.{◌≡◌, Bool, List, Result, ℕ, suc, ◌-◌, ◌*◌, ◌<◌, eqb, ltb, length, get_or, set}
 use Rattle.lists.specs.Pick.{pick}
 use Rattle.lists.specs.Part.{place}
 use Rattle.chains.specs.Limits.{max_members}
@@ -9,7 +9,7 @@ use Rattle.members.specs.Sets.{members, Has}
 use Rattle.tables.specs.Memory.{Turned}
 use Rattle.tables.specs.Visit.{Gathered, OldOr}
 use Rattle.tables.specs.Sweep.{Served, Marked}
-use Rattle.members.specs.declared.Turn.{Turn}
+use Rattle.members.specs.declared.Full.{Full}
 
 -- ── a visit for the child in slot t ──
 -- the slot of turn j: t first, so that it is tied last, then the others in order
@@ -33,7 +33,7 @@ down_watch b p i = (grammar b).left p
 
 -- what a visit of production p for child j leaves: all its results there over the sets as they stood are in the child's kind's set, and nothing
 -- else is new
-abbrev pub DownVisited : (b s c : List ℕ) → (p j : ℕ) → (f d f' d' : List ℕ) → Turn → Type 0
+abbrev pub DownVisited : (b s c : List ℕ) → (p j : ℕ) → (f d f' d' : List ℕ) → Result Bool Full → Type 0
 DownVisited b s c p j f d f' d' r = Turned (kinds b) (OldOr f d (down_into b p j) (DownStep b s c p j (Has f d)))
     (Gathered (down_into b p j) (DownStep b s c p j (Has f d)) f' d') f d f' d' r
 

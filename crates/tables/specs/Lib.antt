@@ -8,7 +8,6 @@ pub mod Memory
 pub mod State
 pub mod Seen
 pub mod Visit
-pub mod Turns
 pub mod Sweep
 pub mod Upward
 pub mod Downward

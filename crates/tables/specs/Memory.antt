@@ -1,11 +1,11 @@
 -- The sets while they are worked out, for any family P of what may stand in them.
-use Rattle.std.specs.Prelude.{◌≡◌, List, ℕ, ◌*◌, ◌≤◌, ◌<◌, length, get_or}
+use Rattle.std.specs.Prelude.{◌≡◌, Bool, List, Result, ℕ, ◌*◌, ◌≤◌, ◌<◌, length, get_or}
 use Rattle.lists.specs.Rising.{Rising}
 use Rattle.lists.specs.Room as lists
 use Rattle.chains.specs.Limits.{max_members}
 use Rattle.members.specs.Sets.{members, Has, member, Case}
 use Rattle.tables.specs.Sets.{Over}
-use Rattle.members.specs.declared.Turn.{Turn}
+use Rattle.members.specs.declared.Full.{Full}
 
 -- the first n kinds have rising sets of what has P, zeros behind
 pub record Fine (n : ℕ) (P : ℕ → ℕ → Type 0) (s c : List ℕ) : Type 0 where
@@ -31,7 +31,7 @@ pub record Kept (n : ℕ) (s c s' c' : List ℕ) : Type 0 where
   pub stays : (k x : ℕ) → k < n → Has s c k x → Has s' c' k x
 
 -- what a step of a pass leaves: D, with nothing added or with something; or some set would be over-full
-pub record Turned (n : ℕ) (P : ℕ → ℕ → Type 0) (D : Type 0) (s c s' c' : List ℕ) (r : Turn) : Type 0 where
+pub record Turned (n : ℕ) (P : ℕ → ℕ → Type 0) (D : Type 0) (s c s' c' : List ℕ) (r : Result Bool Full) : Type 0 where
   pub fine : Fine n P s' c'
   pub kept : Kept n s c s' c'
   pub case : Case r ((s' ≡ s) × (c' ≡ c) × D) ((room c' < room c) × D) (Over n P)

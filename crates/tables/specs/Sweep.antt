@@ -1,11 +1,10 @@
 -- The sweeps of a pass, for any step: what the productions that were visited have put in, and the marks by which a visit is spared.
-use Rattle.std.specs.Prelude.{◌≡◌, ◌⊎◌, Bool, true, false, List, ℕ, zero, suc, ◌+◌, ◌<◌, get_or}
+use Rattle.std.specs.Prelude.{◌≡◌, ◌⊎◌, Bool, List, Result, OnOk, OnErr, ℕ, zero, suc, ◌+◌, ◌<◌, get_or}
 use Rattle.members.specs.Sets.{Has}
 use Rattle.tables.specs.Sets.{Over, Holds}
 use Rattle.tables.specs.Memory.{Fine, Kept, Turned}
 use Rattle.tables.specs.Visit.{Gathered}
-use Rattle.members.specs.declared.Turn.{Turn}
-use Rattle.members.specs.declared.Turn.TheVariants.{Full}
+use Rattle.members.specs.declared.Full.{Full}
 
 -- step A x: the step gives x for sets that have A. Some time since s₀, c₀, all that it gave for the sets as they stood was put into kind k's set, and it is there
 pub record Since (n : ℕ) (step : (ℕ → ℕ → Type 0) → ℕ → Type 0) (k : ℕ) (s₀ c₀ s c : List ℕ) : Type 0 where
@@ -38,16 +37,16 @@ abbrev pub Marked : (n m : ℕ) (step : ℕ → (ℕ → ℕ → Type 0) → ℕ
 Marked n m step into watch w mark s c = (mark ≡ 0) ⊎ Visited n m step into watch w mark s c
 
 -- a turn of a sweep, or a sweep: what it has come to, and marks that hold unless some set is over-full
-pub record Attended (n : ℕ) (P : ℕ → ℕ → Type 0) (D : Type 0) (marks : List ℕ → List ℕ → Type 0) (s c s' c' : List ℕ) (r : Turn) : Type 0 where
+pub record Attended (n : ℕ) (P : ℕ → ℕ → Type 0) (D : Type 0) (marks : List ℕ → List ℕ → Type 0) (s c s' c' : List ℕ) (r : Result Bool Full) : Type 0 where
   pub turned : Turned n P D s c s' c' r
-  pub marked : (r ≡ Full → ⊥) → marks s' c'
+  pub marked : OnOk r (marks s' c')
 
 -- what sweeps leave once one adds nothing, or some set is over-full: all is in order, and C holds
-pub record Swept (n : ℕ) (P : ℕ → ℕ → Type 0) (C : Type 0) (s c s' c' : List ℕ) (r : Bool) : Type 0 where
+pub record Swept (n : ℕ) (P : ℕ → ℕ → Type 0) (C : Type 0) (s c s' c' : List ℕ) (r : Result (Unit {0}) Full) : Type 0 where
   pub fine : Fine n P s' c'
   pub kept : Kept n s c s' c'
-  pub closed : r ≡ true → C
-  pub over : r ≡ false → Over n P
+  pub closed : OnOk r C
+  pub over : OnErr r (Over n P)
 
 -- the sets hold exactly what has P
 pub record Exact (n : ℕ) (P : ℕ → ℕ → Type 0) (s c : List ℕ) : Type 0 where
@@ -55,6 +54,6 @@ pub record Exact (n : ℕ) (P : ℕ → ℕ → Type 0) (s c : List ℕ) : Type 
   pub whole : (k x : ℕ) → k < n → P k x → Has s c k x
 
 -- what a pass leaves: the sets hold exactly what has P, or there is one more than a set can hold
-pub record Outcome (n : ℕ) (P : ℕ → ℕ → Type 0) (s c s' c' : List ℕ) (r : Bool) : Type 0 where
-  pub holds : r ≡ true → Holds n P s c s' c'
-  pub over : r ≡ false → Over n P
+pub record Outcome (n : ℕ) (P : ℕ → ℕ → Type 0) (s c s' c' : List ℕ) (r : Result (Unit {0}) Full) : Type 0 where
+  pub holds : OnOk r (Holds n P s c s' c')
+  pub over : OnErr r (Over n P)

@@ -1,12 +1,12 @@
 -- The upward pass over an accepted book, as its sweeps go.
-use Rattle.std.specs.Prelude.{List, ℕ, ◌<◌, length, get_or}
+use Rattle.std.specs.Prelude.{Bool, List, Result, ℕ, ◌<◌, length, get_or}
 use Rattle.chains.specs.Steps.{StepUp}
 use Rattle.book.specs.Format.{kinds, prods, grammar}
 use Rattle.members.specs.Sets.{Has}
 use Rattle.tables.specs.Memory.{Turned}
 use Rattle.tables.specs.Visit.{Gathered, OldOr}
 use Rattle.tables.specs.Sweep.{Served, Marked}
-use Rattle.members.specs.declared.Turn.{Turn}
+use Rattle.members.specs.declared.Full.{Full}
 
 -- production p's one step, for its left kind, watches its children's kinds
 abbrev pub UpStep : List ℕ → ℕ → ℕ → (ℕ → ℕ → Type 0) → ℕ → Type 0
@@ -19,7 +19,7 @@ abbrev pub up_watch : List ℕ → ℕ → ℕ → ℕ
 up_watch b p i = get_or ((grammar b).kids p) i 0
 
 -- what a visit of production p leaves: all its results over the sets as they stood are in its left kind's set, and nothing else is new
-abbrev pub UpVisited : List ℕ → ℕ → (s c s' c' : List ℕ) → Turn → Type 0
+abbrev pub UpVisited : List ℕ → ℕ → (s c s' c' : List ℕ) → Result Bool Full → Type 0
 UpVisited b p s c s' c' r = Turned (kinds b) (OldOr s c ((grammar b).left p) (StepUp (grammar b) (Has s c) p))
     (Gathered ((grammar b).left p) (StepUp (grammar b) (Has s c) p) s' c') s c s' c' r
 

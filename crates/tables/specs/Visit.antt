@@ -1,5 +1,5 @@
 -- A visit of a production: choices of codes for its slots, in turn, and what comes of all of them, step by step as it is worked out.
-use Rattle.std.specs.Prelude.{◌≡◌, ◌⊎◌, List, ℕ, zero, suc, ◌+◌, ◌*◌, ◌≤◌, ◌<◌, eqb, length, get_or, set}
+use Rattle.std.specs.Prelude.{◌≡◌, ◌⊎◌, Bool, List, Result, OnOk, ℕ, zero, suc, ◌+◌, ◌*◌, ◌≤◌, ◌<◌, eqb, length, get_or, set}
 use Rattle.lists.specs.Pick.{pick}
 use Rattle.lists.specs.Part.{place}
 use Rattle.chains.specs.Limits.{max_settings, max_kids, max_members}
@@ -10,8 +10,7 @@ use Rattle.members.specs.Sets.{members, Has, member}
 use Rattle.tables.specs.Memory.{Fine, Turned}
 use Rattle.tables.specs.State.{State, Whole, Readable, width_in, based, tidied}
 use Rattle.tables.specs.Seen.{Stored}
-use Rattle.members.specs.declared.Turn.{Turn}
-use Rattle.members.specs.declared.Turn.TheVariants.{Full}
+use Rattle.members.specs.declared.Full.{Full}
 use Rattle.tables.specs.declared.gather.Visit.{Visit}
 
 -- the slots that a production can have, and as many turns
@@ -73,7 +72,7 @@ abbrev pub OldOr : List ℕ → List ℕ → ℕ → (ℕ → Type 0) → ℕ �
 OldOr s c k Q j x = Has s c j x ⊎ ((j ≡ k) × Q x)
 
 -- what is left once all that has Q was put into kind k's set; for however many kinds the sets were in order
-abbrev pub Gathers : ℕ → (ℕ → Type 0) → (s c s' c' : List ℕ) → Turn → Type 0
+abbrev pub Gathers : ℕ → (ℕ → Type 0) → (s c s' c' : List ℕ) → Result Bool Full → Type 0
 Gathers k Q s c s' c' r = (n : ℕ) → k < n → Fine n (Has s c) s c → Turned n (OldOr s c k Q) (Gathered k Q s' c') s c s' c' r
 
 -- the sets are in order, for some number of kinds, of which k is one
@@ -95,9 +94,9 @@ pub record Request (v : Visit) (l : List ℕ) (j : ℕ) (u kept s c : List ℕ) 
   pub seen : Stored (Done v l s c) kept
 
 -- and what it leaves
-pub record Reply (v : Visit) (l : List ℕ) (j : ℕ) (u s c kept' s' c' : List ℕ) (r : Turn) : Type 0 where
+pub record Reply (v : Visit) (l : List ℕ) (j : ℕ) (u s c kept' s' c' : List ℕ) (r : Result Bool Full) : Type 0 where
   pub turned : Gathers v.kind (Yields v l j u) s c s' c' r
-  pub seen : (r ≡ Full → ⊥) → Stored (Done v l s' c') kept'
+  pub seen : OnOk r (Stored (Done v l s' c') kept')
 
 -- ── a visit made ready, off the production entry at the place at of the book b ──
 -- v with turn j given to a slot, and the codes of that slot's kind, off the sets s with the counts c, put into the lists l

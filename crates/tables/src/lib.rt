@@ -11,7 +11,6 @@ mod seen;
 mod sets;
 mod shape;
 mod totals;
-mod turns;
 mod upward;
 mod visit;
 
