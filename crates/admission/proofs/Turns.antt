@@ -12,7 +12,8 @@ use Rattle.lists.specs.Refusals.{Sooner}
 use Rattle.bookcheck.proofs.Rows.{row_of_book}
 use Rattle.sheet.specs.Refusals as sheet
 use Rattle.sheet.proofs.Refusals as sheet_rows
-use Rattle.admission.specs.Refusals.{Lengths, ShortCounts, ShortRoom, Applies, of_sheet, short_counts, short_room, turn}
+use Rattle.admission.specs.declared.Lengths.{Lengths}
+use Rattle.admission.specs.Refusals.{ShortCounts, ShortRoom, Applies, of_sheet, short_counts, short_room, turn}
 
 -- a row is the sheet's, or one of the two about lengths
 pub data Row (b l : List ℕ) (m : Lengths) (n p : ℕ) : Type 0 where

@@ -5,14 +5,9 @@ use Rattle.lists.specs.Refusals.{Said, Due}
 use Rattle.book.specs.Format.{kinds, grammar}
 use Rattle.sheet.specs.Reading.{all_settings}
 use Rattle.sheet.specs.Refusals as sheet
+use Rattle.admission.specs.declared.Lengths.{Lengths}
 
--- the lengths of the slices that are lent: the two of counts, that of nodes and that of groups
-pub record Lengths : Type 0 where
-  pub plausible_counts : ℕ
-  pub feasible_counts : ℕ
-  pub nodes : ℕ
-  pub groups : ℕ
-
+-- the four lengths together
 abbrev pub lengths : ℕ → ℕ → ℕ → ℕ → Lengths
 lengths c d n g = record { plausible_counts = c; feasible_counts = d; nodes = n; groups = g }
 

@@ -2,105 +2,51 @@
 // Nothing is borrowed here that could be written.
 #![tactic(auto)]
 
-ghost use Rattle.std.specs.Prelude.{[], ◌∷◌};
-ghost use Rattle.lists.specs.Refusals.{accepted};
-ghost use Rattle.bookcheck.specs.Search.{Tells};
-ghost use Rattle.bookcheck.specs.Accepted.{Accepted};
-ghost use Rattle.sheet.specs.Refusals.{SheetDue};
+ghost use Rattle.std.specs.Prelude.{◌↔◌, IsTrue};
+ghost use Rattle.sheet.specs.Trees.{Sound};
 ghost use Rattle.admission.specs.Answer.{said};
-ghost use Rattle.admission.specs.Refusals.{lengths, ShortCounts, AdmissionDue};
+ghost use Rattle.admission.specs.Refusals.{ShortCounts, AdmissionDue};
 
-use sheet::SheetChecked;
+use refusals::{Refusal, Refused};
+use sheet::Counts;
 
 // Places of the node slice for each node: plausible rank, feasible rank, down entry.
 const PLACES: usize = 3;
 
-// What the admission answers: the numbers of nodes and settings, or the first refusal that applies.
-#[derive(Clone, Copy)]
-pub enum Admission {
-    Admitted { nodes: u16, settings: u16 },
-    Refused { number: u8, place: u16 },
+// The lengths of the slices that are lent: the two of counts, that of nodes and that of groups.
+#[derive(Clone, Copy, Debug, PartialEq, Eq)]
+pub struct Lengths {
+    pub plausible_counts: usize,
+    pub feasible_counts: usize,
+    pub nodes: usize,
+    pub groups: usize,
 }
 
 // Whether a count slice is shorter than the number of kinds.
-fn too_short(book: &[u8], plausible: usize, feasible: usize) -> bool
-    requires { Accepted book.now }
-    ensures { Tells (ShortCounts book.now plausible feasible) result }
+fn too_short(book: &[u8], lengths: Lengths) -> bool
+    requires { Sound book.now }
+    ensures { IsTrue result ↔ ShortCounts book.now lengths.plausible_counts lengths.feasible_counts }
 {
-    let n = book::kinds(book) as usize;
-    if plausible < n {
-        return true;
-    }
-    feasible < n
-}
-
-// A sheet that has been accepted: 9, then 24.
-fn measure(
-    book: &[u8],
-    sheet: &[u8],
-    plausible: usize,
-    feasible: usize,
-    nodes: usize,
-    groups: usize,
-    count: u16,
-    settings: u16,
-) -> Admission
-    requires { SheetDue book.now sheet.now (accepted (count ∷ settings ∷ [])) }
-    ensures { AdmissionDue book.now sheet.now (lengths plausible feasible nodes groups) (said result) }
-{
-    if too_short(book, plausible, feasible) {
-        return Admission::Refused {
-            number: 9,
-            place: 0,
-        };
-    }
-    if nodes < PLACES * count as usize {
-        return Admission::Refused {
-            number: 24,
-            place: 0,
-        };
-    }
-    if groups < settings as usize {
-        return Admission::Refused {
-            number: 24,
-            place: 0,
-        };
-    }
-    Admission::Admitted {
-        nodes: count,
-        settings,
-    }
+    let n = usize::from(book::kinds(book));
+    lengths.plausible_counts < n || lengths.feasible_counts < n
 }
 
 // 1 to 8 come before the count slices, and 20 to 23 after them.
-pub fn admit(
-    book: &[u8],
-    sheet: &[u8],
-    plausible: usize,
-    feasible: usize,
-    nodes: usize,
-    groups: usize,
-) -> Admission
-    ensures { AdmissionDue book.now sheet.now (lengths plausible feasible nodes groups) (said result) }
+pub fn admit(book: &[u8], sheet: &[u8], lengths: Lengths) -> Result<Counts, Refused>
+    ensures { AdmissionDue book.now sheet.now lengths (said result) }
 {
-    match sheet::check_sheet(book, sheet) {
-        SheetChecked::Accepted {
-            nodes: count,
-            settings,
-        } => measure(
-            book, sheet, plausible, feasible, nodes, groups, count, settings,
-        ),
-        SheetChecked::Refused { number, place } => {
-            if number < 9 {
-                return Admission::Refused { number, place };
-            }
-            if too_short(book, plausible, feasible) {
-                return Admission::Refused {
-                    number: 9,
-                    place: 0,
-                };
-            }
-            Admission::Refused { number, place }
-        }
+    let checked = sheet::check_sheet(book, sheet);
+    if checked.is_err_and(|refused| refused.refusal.number() < Refusal::ShortSets.number()) {
+        return checked;
     }
+    if too_short(book, lengths) {
+        return Err(Refusal::ShortSets.at(0));
+    }
+    let counts = checked?;
+    if lengths.nodes < PLACES * usize::from(counts.nodes)
+        || lengths.groups < usize::from(counts.settings)
+    {
+        return Err(Refusal::ShortRoom.at(0));
+    }
+    Ok(counts)
 }

@@ -23,7 +23,10 @@ orderly = record {
 pub said_once : (b l : List ℕ) (s t : Said) → SheetDue b l s → SheetDue b l t → s ≡ t
 said_once b l = due_once turn (λ f. f.0) (λ f. f.1) (λ f. Applies b l f.0 f.1) (length l ∷ all_settings (grammar b) l ∷ []) orderly
 
+-- what an answer says is the whole of it
+pub answer_once : (r s : Result Counts Refused) → said r ≡ said s → r ≡ s
+answer_once = said_by_once (λ c. c.nodes ∷ c.settings ∷ []) (λ cs. record { nodes = get_or cs 0 0; settings = get_or cs 1 0 }) (λ c. refl)
+
 -- THEOREM: the promise leaves one answer
 pub check_once : (b l : List ℕ) (r s : Result Counts Refused) → SheetDue b l (said r) → SheetDue b l (said s) → r ≡ s
-check_once b l r s d e =
-    said_by_once (λ c. c.nodes ∷ c.settings ∷ []) (λ cs. record { nodes = get_or cs 0 0; settings = get_or cs 1 0 }) (λ c. refl) r s (said_once b l (said r) (said s) d e)
+check_once b l r s d e = answer_once r s (said_once b l (said r) (said s) d e)

@@ -1,22 +1,24 @@
 -- Each exit has its own law.
-use Rattle.admission.proofs.Measured.{admitted_by, refused_book_of, turned_away, turned_short, turned_later}
-use native.Mathlib.Omega.{arith}
+use Rattle.std.proofs.Common.{rules, arith}
+use Rattle.admission.proofs.Measured.{turned_away, sound_by, turned_short, turned_later, measured_short}
 use Rattle.admission.proofs.admit.Goals as goal
 
-pub check_sheet-requires : goal.check_sheet-requires
-check_sheet-requires c = tt
-
-pub measure-requires : goal.measure-requires
-measure-requires c = admitted_by _ _ c.check_sheet.ensures c.in-Accepted.is
-
-pub returns-then-number-lt9 : goal.returns-then-number-lt9
-returns-then-number-lt9 c = turned_away _ _ c.check_sheet.ensures _ c.in-Refused.is (omega (arith, c.if-number-lt9.true))
+pub returns-then-is_err_and : goal.returns-then-is_err_and
+returns-then-is_err_and c = turned_away c.args.book.now _ c.args.lengths _ c.check_sheet-checked.ensures (grind arith)
 
 pub too_short-requires : goal.too_short-requires
-too_short-requires c = refused_book_of _ _ c.check_sheet.ensures c.in-Refused.is c.if-number-lt9.false
+too_short-requires c = sound_by _ c.args.sheet.now _ c.check_sheet-checked.ensures (λ e x. search rules)
 
 pub returns-then-too_short : goal.returns-then-too_short
-returns-then-too_short c = turned_short _ _ c.check_sheet.ensures _ c.in-Refused.is c.too_short.ensures (omega (arith, c.if-number-lt9.false)) c.if-too_short.true
+returns-then-too_short c =
+    let sound = sound_by c.args.book.now c.args.sheet.now _ c.check_sheet-checked.ensures (λ e x. search rules) in
+    turned_short _ c.args.sheet.now c.args.lengths c.at.ensures sound (search rules)
 
-pub returns-else-too_short : goal.returns-else-too_short
-returns-else-too_short c = turned_later _ _ c.check_sheet.ensures _ c.in-Refused.is c.too_short.ensures c.if-too_short.false
+pub returns-in_err-counts : goal.returns-in_err-counts
+returns-in_err-counts c =
+    let due = turned_later c.args.book.now c.args.sheet.now c.args.lengths (search rules) _ c.in_err-counts.ensures in
+    search (rules, due)
+
+pub returns-then-lengths-from : goal.returns-then-lengths-from
+returns-then-lengths-from c =
+    measured_short c.args.book.now c.args.sheet.now c.args.lengths (search rules) _ c.in_ok-counts.ensures c.at-then-lengths-from.ensures (grind arith)

@@ -1,16 +1,10 @@
--- Either slice shorter than the number of kinds.
-use Rattle.admission.proofs.Measured.{short_plausible, short_feasible}
-use native.Mathlib.Omega.{arith}
+use Rattle.std.proofs.Common.{arith}
+use Rattle.bookcheck.proofs.Accepted.{told_kinds}
+use Rattle.sheet.proofs.Accepted.{book_accepted}
 use Rattle.admission.proofs.too_short.Goals as goal
 
-pub kinds-n-requires : goal.kinds-n-requires
-kinds-n-requires c = tt
+pub returns-then-lengths-n : goal.returns-then-lengths-n
+returns-then-lengths-n c = grind (arith, told_kinds (book_accepted _ c.requires))
 
-pub overflow_cast-n : goal.overflow_cast-n
-overflow_cast-n c = omega arith
-
-pub returns-then-plausible-n : goal.returns-then-plausible-n
-returns-then-plausible-n c = short_plausible c.requires c.kinds-n.ensures (omega (arith, c.if-plausible-n.true))
-
-pub returns : goal.returns
-returns c = short_feasible c.requires c.kinds-n.ensures (omega (arith, c.if-plausible-n.false))
+pub returns-else-lengths-n : goal.returns-else-lengths-n
+returns-else-lengths-n c = grind (arith, told_kinds (book_accepted _ c.requires))
