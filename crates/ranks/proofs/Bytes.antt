@@ -1,25 +1,23 @@
--- A byte of a table, and of one of its entries: what stands there, or what the reader takes where there is none.
-use mathlib.Core.Path.{◌≡◌, refl, ◌∙◌}
-use mathlib.Core.List.{List, [], ◌∷◌}
-use Prim.Native.Nat.{ℕ, zero, suc, ◌+◌, ◌≤◌, ◌<◌}
-use native.Mathlib.Omega.{arith}
-use lib.ListN.{length, get_or, drop, length-take, length-drop, get_or-eq_default}
-use lib.Seq.{get_or-take, get_or-drop}
+-- The bytes of an entry, as bytes of its table.
+use Rattle.std.proofs.Common.{◌≡◌, ℕ, zero, suc, ◌+◌, ◌<◌, ◌≤◌, List, [], ◌∷◌, slice_get, get_or, take, drop, refl, sym, ap, ◌∙◌, arith, zero-add}
+use Rattle.std.proofs.lemmas.List.{get_or_past, length-take}
 use Rattle.lists.specs.Part.{part}
 
--- a byte that is there is the same whatever would be taken for one that is not
-pub byte_any : (s : List ℕ) (i d d' : ℕ) → i < length s → get_or s i d ≡ get_or s i d'
-byte_any [] i d d' h = absurd (omega arith)
-byte_any (x ∷ s) zero d d' h = refl
-byte_any (x ∷ s) (suc i) d d' h = byte_any s i d d' (omega arith)
+module _ {A : Type 0} where
+  slice_get-take : (n : ℕ) (s : List A) (i : ℕ) → i < n → slice_get (take n s) i ≡ slice_get s i
+  slice_get-take zero s i h = absurd (omega arith)
+  slice_get-take (suc n) [] i h = refl
+  slice_get-take (suc n) (x ∷ s) zero h = refl
+  slice_get-take (suc n) (x ∷ s) (suc i) h = slice_get-take n s i (omega arith)
 
--- an entry of n bytes from place at on, and its byte i
-module _ (s : List ℕ) (at n i d : ℕ) where
-  pub byte_there : i < n → at + i < length s → get_or (part at n s) i d ≡ get_or s (at + i) 0
-  byte_there h l = get_or-take n (drop at s) i d h ∙ get_or-drop at s i d ∙ byte_any s (at + i) d 0 l
+  slice_get-drop : (n : ℕ) (s : List A) (i : ℕ) → slice_get (drop n s) i ≡ slice_get s (n + i)
+  slice_get-drop zero s i = ap (slice_get s) (sym (zero-add i))
+  slice_get-drop (suc n) [] i = refl
+  slice_get-drop (suc n) (x ∷ s) i = let e : suc n + i ≡ suc (n + i) = omega arith in rw e (slice_get-drop n s i)
 
-  pub byte_past : length s ≤ at + i → get_or (part at n s) i d ≡ d
-  byte_past h = get_or-eq_default (part at n s) d (omega (arith, length-take n (drop at s), length-drop at s))
+  pub slice_get-part : (at n : ℕ) (s : List A) (i : ℕ) → i < n → slice_get (part at n s) i ≡ slice_get s (at + i)
+  slice_get-part at n s i h = slice_get-take n (drop at s) i h ∙ slice_get-drop at s i
 
-  pub byte_over : n ≤ i → get_or (part at n s) i d ≡ d
-  byte_over h = get_or-eq_default (part at n s) d (omega (arith, length-take n (drop at s)))
+-- a part has no element from its n-th on
+pub get_or-part_past : (at n : ℕ) (s : List ℕ) (i d : ℕ) → n ≤ i → get_or (part at n s) i d ≡ d
+get_or-part_past at n s i d h = get_or_past (part at n s) i d (omega (arith, length-take n (drop at s)))

@@ -1,34 +1,14 @@
--- What a read finds, and that two answers that keep one promise are the same answer.
+-- Two answers of a read that keep one promise are the same answer.
 use mathlib.Core.Path.{◌≡◌, refl, sym, ap, ◌∙◌}
-use mathlib.Core.List.{List, [], ◌∷◌}
-use Prim.Native.Nat.{ℕ, zero, suc, ◌<◌}
+use mathlib.Core.List.{List}
+use Prim.Native.Nat.{ℕ}
 use native.Mathlib.Omega.{arith}
-use lib.ListN.{length, get_or}
 use Rattle.std.specs.Prelude.{Option, Some, None}
 use Rattle.ranks.specs.declared.Plausible.{Plausible}
 use Rattle.ranks.specs.declared.Feasible.{Feasible}
-use Rattle.ranks.specs.Entries.{none}
-use Rattle.ranks.specs.Reads.{numbers, UpFinds, DownFinds, label_at, child_rank_at}
-use Rattle.ranks.proofs.Bytes.{byte_any}
+use Rattle.ranks.specs.Reads.{UpFinds, DownFinds, label_at, child_rank_at}
 
--- ── the numbers of ranks, one by one ──
-pub numbers_long : (l : List Plausible) → length (numbers l) ≡ length l
-unfolding numbers
-numbers_long [] = refl
-numbers_long (r ∷ l) = ap suc (numbers_long l)
-
-pub numbers_at : (l : List Plausible) (i : ℕ) (d : Plausible) → i < length l → (get_or l i d).0 ≡ get_or (numbers l) i 0
-unfolding numbers
-numbers_at [] i d h = absurd (omega arith)
-numbers_at (r ∷ l) zero d h = refl
-numbers_at (r ∷ l) (suc i) d h = numbers_at l i d (omega arith)
-
--- ── what is found ──
--- the byte at the entry's number, however that was worked out
-pub up_there : (s : List ℕ) (x e : ℕ) → x ≡ e → x < length s → UpFinds s e (Some (record { 0 = get_or s x 0 }))
-up_there s x e h l = (omega arith, byte_any s x 0 none l ∙ ap (λ i. get_or s i none) h)
-
--- ── THEOREMS: two answers that keep one promise are the same ──
+-- ── THEOREMS ──
 pub read_up_once : (s : List ℕ) (e : ℕ) (r r' : Option Plausible) → UpFinds s e r → UpFinds s e r' → r ≡ r'
 read_up_once s e (Some x) (Some y) h k = ap made (h.1 ∙ sym k.1)
   where

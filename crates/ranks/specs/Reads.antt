@@ -1,14 +1,17 @@
 -- What a read of the up or the down table finds.
-use Rattle.std.specs.Prelude.{◌≡◌, Option, Some, None, List, [], ◌∷◌, ℕ, zero, suc, ◌+◌, ◌*◌, ◌≤◌, ◌<◌, length, get_or, take}
+use Rattle.std.specs.Prelude.{◌≡◌, Option, Some, None, List, [], ◌∷◌, ℕ, zero, suc, ◌+◌, ◌*◌, ◌≤◌, ◌<◌, length, get_or, take, map}
 use Rattle.lists.specs.Part.{part}
 use Rattle.chains.specs.Limits.{max_kids}
 use Rattle.ranks.specs.Entries.{choices, choice, labels, entry_bytes, none}
 use Rattle.ranks.specs.declared.Plausible.{Plausible}
+use Rattle.ranks.specs.declared.Chosen.{Chosen}
 
--- the ranks' numbers
-unfoldable pub numbers : List Plausible → List ℕ
-numbers [] = []
-numbers (r ∷ rs) = r.0 ∷ numbers rs
+-- of the children that are chosen for: their counts, and the ranks' numbers
+abbrev pub counts_of : List Chosen → List ℕ
+counts_of = map (λ c. c.count)
+
+abbrev pub numbers : List Chosen → List ℕ
+numbers = map (λ c. c.rank.0)
 
 -- the n places from i on
 unfoldable pub from : ℕ → ℕ → List ℕ

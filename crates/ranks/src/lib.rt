@@ -1,11 +1,11 @@
 // Ranks in the plausible and in the feasible sets, and the reads of the two tables, which take and give only their own kind.
 #![tactic(auto)]
 
-ghost use Rattle.std.specs.Prelude.{◌≡◌, suc, ◌+◌, ◌*◌, ◌^◌, ◌<◌, get_or};
+ghost use Rattle.std.specs.Prelude.{◌≡◌, suc, ◌+◌, ◌*◌, ◌^◌, ◌<◌, slice_get};
 ghost use Rattle.chains.specs.Limits.{max_kids};
-ghost use Rattle.ranks.specs.Entries.{choices, choice, byte_values, entry_bytes, none};
+ghost use Rattle.ranks.specs.Entries.{choices, choice, byte_values, entry_bytes};
 ghost use Rattle.ranks.specs.Room.{room_said, RoomDue};
-ghost use Rattle.ranks.specs.Reads.{numbers, places, up_number, down_number, UpFinds, DownFinds, entry_at, label_at, child_rank_at};
+ghost use Rattle.ranks.specs.Reads.{counts_of, numbers, places, up_number, down_number, UpFinds, DownFinds, entry_at, label_at, child_rank_at};
 
 use refusals::{Refusal, Refused};
 
@@ -25,83 +25,52 @@ pub struct Plausible(pub u8);
 #[derive(Clone, Copy, Debug, PartialEq, Eq)]
 pub struct Feasible(pub u8);
 
-fn wide(x: u8) -> u64
-    ensures { (result ≡ x) × (result < byte_values) }
-{
-    x as u64
+// A child in a choice: how many plausible groupings its kind has, and the chosen one's rank among them.
+#[derive(Clone, Copy, Debug, PartialEq, Eq)]
+pub struct Chosen {
+    pub count: u8,
+    pub rank: Plausible,
 }
 
 // The number of a choice, child 1's rank counting most, under a digit that counts more than all of them.
-fn numbered(most: u8, counts: [u8; KIDS], ranks: [Plausible; KIDS]) -> u64
-    ensures { (result ≡ most * choices counts places + choice counts places (numbers ranks)) × (result < byte_values ^ suc max_kids) }
+fn numbered(most: u8, children: [Chosen; KIDS]) -> u64
+    ensures { (result ≡ most * choices (counts_of children) places + choice (counts_of children) places (numbers children)) × (result < byte_values ^ suc max_kids) }
 {
-    let mut number = wide(most);
-    let mut i = 0;
-    while i < KIDS {
-        let r = ranks[i];
-        number = number * wide(counts[i]) + wide(r.0);
-        i += 1;
+    let mut number = u64::from(most);
+    for Chosen {
+        count,
+        rank: Plausible(rank),
+    } in children {
+        number = number * u64::from(count) + u64::from(rank);
     }
     number
 }
 
-// The rank that the up table has for a production, whose entries begin at start, and a choice: its children's counts and ranks, a count of 1
-// and a rank of 0 past the last child. start is compared with the slice first, so that no sum wraps.
-pub fn read_up(
-    up: &[u8],
-    start: u64,
-    counts: [u8; KIDS],
-    ranks: [Plausible; KIDS],
-) -> Option<Plausible>
-    ensures { UpFinds up.now (up_number start counts (numbers ranks)) result }
+// The rank that the up table has for a production, whose entries begin at start, and a choice: a child each, past the last one a count of 1
+// and a rank of 0.
+pub fn read_up(up: &[u8], start: u64, children: [Chosen; KIDS]) -> Option<Plausible>
+    ensures { UpFinds up.now (up_number start (counts_of children) (numbers children)) result }
 {
-    let size = up.len() as u64;
-    if size <= start {
-        return None;
-    }
-    let choice = numbered(0, counts, ranks);
-    if size - start <= choice {
-        return None;
-    }
-    let at = (start + choice) as usize;
-    Some(Plausible(up[at]))
+    let entry = start.checked_add(numbered(0, children))?;
+    up.get(entry as usize).copied().map(Plausible)
 }
 
 // The number of the down entry of a feasible rank and a choice, where the entry is whole within the slice.
-pub fn read_down(
-    down: &[u8],
-    start: u64,
-    counts: [u8; KIDS],
-    f: Feasible,
-    ranks: [Plausible; KIDS],
-) -> Option<u64>
-    ensures { DownFinds down.now (down_number start counts f.0 (numbers ranks)) result }
+pub fn read_down(down: &[u8], start: u64, f: Feasible, children: [Chosen; KIDS]) -> Option<u64>
+    ensures { DownFinds down.now (down_number start (counts_of children) f.0 (numbers children)) result }
 {
+    let entry = start.checked_add(numbered(f.0, children))?;
     let whole = (down.len() / ENTRY) as u64;
-    if whole <= start {
-        return None;
-    }
-    let within = numbered(f.0, counts, ranks);
-    if whole - start <= within {
-        return None;
-    }
-    Some(start + within)
+    (entry < whole).then_some(entry)
 }
 
-// Byte i of a down entry. The entry is compared with the slice before its place is worked out.
-fn byte_of(down: &[u8], entry: u64, i: usize) -> u8
+// Byte i of a down entry, where the slice has it.
+fn byte_of(down: &[u8], entry: u64, i: usize) -> Option<u8>
     requires { i < entry_bytes }
-    ensures { result ≡ get_or (entry_at down.now entry) i none }
+    ensures { result ≡ slice_get (entry_at down.now entry) i }
 {
-    let size = down.len();
-    if ((size / ENTRY) as u64) < entry {
-        return NONE;
-    }
-    let base = entry as usize * ENTRY;
-    if size - base <= i {
-        return NONE;
-    }
-    down[base + i]
+    let start = (entry as usize).checked_mul(ENTRY)?;
+    down.get(start.checked_add(i)?).copied()
 }
 
 // The feasible rank of child j, from 0 on, in a down entry; 255 where there is none.
@@ -109,7 +78,7 @@ pub fn child_rank(down: &[u8], entry: u64, j: usize) -> Feasible
     ensures { result.0 ≡ child_rank_at down.now entry j }
 {
     if j < KIDS {
-        Feasible(byte_of(down, entry, LABELS + j))
+        Feasible(byte_of(down, entry, LABELS + j).unwrap_or(NONE))
     } else {
         Feasible(NONE)
     }
@@ -120,7 +89,7 @@ pub fn label(down: &[u8], entry: u64, o: usize) -> u8
     ensures { result ≡ label_at down.now entry o }
 {
     if o < LABELS {
-        byte_of(down, entry, o)
+        byte_of(down, entry, o).unwrap_or(NONE)
     } else {
         NONE
     }

@@ -1,22 +1,14 @@
--- The byte is read where the slice has it.
-use mathlib.Core.Path.{sym}
-use Prim.Native.Nat.{◌*◌}
-use native.Mathlib.Omega.{arith}
-use Rattle.ranks.specs.Entries.{entry_bytes, none}
-use Rattle.ranks.proofs.Bytes.{byte_there, byte_past}
+-- An entry's byte is the table's at the entry's place.
+use Rattle.std.proofs.Common.{◌≡◌, ◌+◌, ◌*◌, arith}
+use Rattle.std.proofs.lemmas.Option.{gets}
+use Rattle.std.proofs.lemmas.Grind.{common_steps}
+use Rattle.ranks.specs.Entries.{entry_bytes}
+use Rattle.ranks.proofs.Bytes.{slice_get-part}
 use Rattle.ranks.proofs.byte_of.Goals as goal
-
-pub returns-then-size-entry : goal.returns-then-size-entry
-returns-then-size-entry c =
-    let a = c.args in
-    sym (byte_past a.down.now (a.entry * entry_bytes) entry_bytes a.i none (omega arith))
-
-pub returns-then-size-base : goal.returns-then-size-base
-returns-then-size-base c =
-    let a = c.args in
-    sym (byte_past a.down.now (a.entry * entry_bytes) entry_bytes a.i none (omega arith))
 
 pub returns : goal.returns
 returns c =
     let a = c.args in
-    sym (byte_there a.down.now (a.entry * entry_bytes) entry_bytes a.i none (omega arith) (omega arith))
+    let h : c.in_ok-checked_add.field-0 ≡ a.entry * entry_bytes + a.i = omega arith in
+    let e = slice_get-part (a.entry * entry_bytes) entry_bytes a.down.now a.i (omega arith) in
+    grind (arith, common_steps, gets)
