@@ -1,9 +1,9 @@
 -- What a word tells: 0 is acceptance, and any other word is one refusal's number and place.
-use mathlib.Core.Path.{◌≡◌, refl, sym, ap, subst, ◌∙◌}
+use mathlib.Core.Path.{◌≡◌, sym, ap, ◌∙◌}
 use mathlib.Core.List.{List, [], ◌∷◌}
-use Prim.Native.Nat.{ℕ, ◌+◌, ◌*◌, ◌/◌, ◌%◌, ◌<◌}
+use Prim.Native.Nat.{ℕ, ◌/◌, ◌%◌, ◌<◌}
 use native.Mathlib.Omega.{arith}
-use Rattle.lists.specs.Refusals.{Said, accepted, refused}
+use Rattle.lists.specs.Refusals.{Said, refused}
 use Rattle.lists.proofs.Refusals.{due_once}
 use Rattle.book.specs.Format.{kinds, prods}
 use Rattle.bookcheck.specs.Refusals as book
@@ -13,15 +13,6 @@ use Rattle.sheet.proofs.Once as sheet_once
 use Rattle.sheet.proofs.Refusals.{fault_high, Row, books, lengths, reads, row}
 use Rattle.service.specs.Word.{word, Narrow, Spoken}
 
--- ── a word is made ──
-module _ (Due : Said → Type 0) where
-  pub of_accepted : {s : Said} (counts : List ℕ) → Due s → s ≡ accepted counts → Spoken Due 0
-  of_accepted counts d e = record { said = accepted counts; due = subst Due e d; narrow = tt; is = refl }
-
-  pub of_refused : {s : Said} {w : ℕ} (n p : ℕ) → Due s → s ≡ refused n p → p < 65536 → w ≡ n * 65536 + p → Spoken Due w
-  of_refused n p d e h i = record { said = refused n p; due = subst Due e d; narrow = h; is = i }
-
--- ── a word is read ──
 -- number and place are read off it
 pub read_off : (n p : ℕ) → Narrow (refused n p) → (word (refused n p) / 65536 ≡ n) × (word (refused n p) % 65536 ≡ p)
 read_off n p h = (omega arith, omega arith)

@@ -2,40 +2,33 @@
 // include/unchancyra.h has the contract in words.
 #![tactic(auto)]
 
-ghost use Rattle.std.specs.Prelude.{◌≡◌, ◌+◌, ◌*◌};
+ghost use Rattle.std.specs.Prelude.{◌≡◌, []};
+ghost use Rattle.refusals.specs.Table.{said_by};
 ghost use Rattle.bookcheck.specs.Refusals.{BookDue};
 ghost use Rattle.sheet.specs.Refusals.{SheetDue};
-ghost use Rattle.service.specs.Word.{Spoken};
+ghost use Rattle.service.specs.Word.{word, Narrow, Spoken};
 
-use bookcheck::Checked;
-use sheet::SheetChecked;
+use refusals::Refused;
 
-fn code(number: u8, place: u16) -> u64
-    ensures { result ≡ number * 65536 + place }
+// An answer as one number, whatever an acceptance counts.
+fn code<T: Drop>(answer: Result<T, Refused>) -> u64
+    ensures number { result ≡ word (said_by (λ _. []) answer) }
+    ensures narrow { Narrow (said_by (λ _. []) answer) }
 {
-    (number as u64) * 65536 + (place as u64)
+    match answer {
+        Ok(_) => 0,
+        Err(refused) => u64::from(refused.refusal.number()) * 65536 + u64::from(refused.place),
+    }
 }
 
 pub fn unchancyra_check_book(book: &[u8]) -> u64
     ensures { Spoken (BookDue book.now) result }
 {
-    match bookcheck::check_book(book) {
-        Checked::Accepted {
-            kinds: _,
-            productions: _,
-        } => 0,
-        Checked::Refused { number, place } => code(number, place),
-    }
+    code(bookcheck::check_book(book))
 }
 
 pub fn unchancyra_check_sheet(book: &[u8], sheet: &[u8]) -> u64
     ensures { Spoken (SheetDue book.now sheet.now) result }
 {
-    match sheet::check_sheet(book, sheet) {
-        SheetChecked::Accepted {
-            nodes: _,
-            settings: _,
-        } => 0,
-        SheetChecked::Refused { number, place } => code(number, place),
-    }
+    code(sheet::check_sheet(book, sheet))
 }
