@@ -10,13 +10,9 @@ use Rattle.lists.specs.Sought.{Free, Least}
 use Rattle.ranks.specs.Entries.{labels, entry_bytes, none}
 use Rattle.ranks.specs.Reads.{label_at}
 use Rattle.blocks.specs.Blocks.{set_bits, In, Carries, Block, Size, FirstIn}
-use Rattle.blocks.proofs.BitSets.{set_once, Marked, marked_in, bit_past}
+use Rattle.blocks.proofs.BitSets.{set_once, Marked, marked_in}
 
 module _ {down : List ℕ} {e x : ℕ} where
-  -- the empty set, where no occurrence carries the label
-  pub block_empty : ((o : ℕ) → Carries down e x o → ⊥) → Block down e x 0
-  block_empty f o = (λ b. absurd (omega (arith, bit_past 0 0 o (omega arith) (omega arith))), λ c. absurd (f o c))
-
   -- the set of all that carry it
   pub block_full : {n set : ℕ} → (e + 1) * entry_bytes ≤ length down → (x ≡ none → ⊥) → n ≡ labels → Marked (λ o. label_at down e o ≡ x) n set → Block down e x set
   block_full {n} {set} w l k m o = (in_block, λ c. (m.exactly o (omega (arith, c.occurs))).1 c.same)

@@ -1,13 +1,8 @@
 -- A bit is put in for each occurrence, from the first on.
 use mathlib.Core.Path.{◌≡◌}
-use Prim.Native.Nat.{◌-◌, ◌≤◌}
-use Rattle.ranks.specs.Entries.{labels, entry_bytes}
 use Rattle.ranks.specs.Reads.{label_at}
 use Rattle.blocks.proofs.BitSets.{Marked}
 use Rattle.blocks.proofs.occurrences.Given as goal
 
 abbrev pub invariant-loop-o : goal.invariant-loop-o
-invariant-loop-o l = (l.o ≤ labels) × Marked (λ i. label_at l.down l.entry i ≡ l.label) l.o l.set
-
-abbrev pub decreases-loop-o : goal.decreases-loop-o
-decreases-loop-o l = entry_bytes - l.o
+invariant-loop-o l = Marked (λ i. label_at l.down l.entry i ≡ l.label) l.o l.set
