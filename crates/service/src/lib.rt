@@ -11,8 +11,8 @@ ghost use Rattle.service.specs.Word.{word, Narrow, Spoken};
 use refusals::Refused;
 
 // An answer as one number, whatever an acceptance counts.
-fn code<T: Drop>(answer: Result<T, Refused>) -> u64
-    ensures number { result ≡ word (said_by (λ _. []) answer) }
+fn number_for<T: Drop>(answer: Result<T, Refused>) -> u64
+    ensures word { result ≡ word (said_by (λ _. []) answer) }
     ensures narrow { Narrow (said_by (λ _. []) answer) }
 {
     match answer {
@@ -24,11 +24,11 @@ fn code<T: Drop>(answer: Result<T, Refused>) -> u64
 pub fn unchancyra_check_book(book: &[u8]) -> u64
     ensures { Spoken (BookDue book.now) result }
 {
-    code(bookcheck::check_book(book))
+    number_for(bookcheck::check_book(book))
 }
 
 pub fn unchancyra_check_sheet(book: &[u8], sheet: &[u8]) -> u64
     ensures { Spoken (SheetDue book.now sheet.now) result }
 {
-    code(sheet::check_sheet(book, sheet))
+    number_for(sheet::check_sheet(book, sheet))
 }
