@@ -1,22 +1,22 @@
 -- Gathering: the loop over a turn's codes, and the ways out of a call.
 use mathlib.Core.Path.{◌≡◌, refl, sym, ◌∙◌, subst}
 use mathlib.Core.Logic.{inl, inr, ◌↔◌, ⊎_elim}
+use mathlib.Core.Bool.{Bool, true, false, ◌||◌}
 use mathlib.Core.List.{List}
-use Prim.Native.Nat.{ℕ, suc, ◌-◌, ◌≤◌, ◌<◌}
+use Prim.Native.Nat.{ℕ, suc, ◌+◌, ◌-◌, ◌≤◌, ◌<◌}
 use native.Mathlib.Omega.{arith}
 use lib.ListN.{length}
+use Rattle.std.specs.Prelude.{Result, Ok, Err, OnOk}
 use Rattle.chains.specs.State.{code_on}
 use Rattle.members.specs.Sets.{Has, Put}
 use Rattle.tables.specs.Sets.{Over}
 use Rattle.tables.specs.Memory.{Fine, Kept, Turned}
 use Rattle.tables.specs.Seen.{seen_bytes, Found, remembered, Stored}
-use Rattle.tables.specs.Turns.{joined, beyond}
 use Rattle.tables.specs.Visit.{size_of, code_of, chosen, Yields, Gathered, OldOr, Gathers, InOrder, Ready, Standing, Done, Request, Reply}
-use Rattle.members.specs.declared.Turn.{Turn}
-use Rattle.members.specs.declared.Turn.TheVariants.{Still, Added, Full}
+use Rattle.members.specs.declared.Full.{Full}
 use Rattle.tables.specs.declared.gather.Visit.{Visit}
 use Rattle.tables.proofs.Memory.{kept_refl, put_turned, turned_map}
-use Rattle.tables.proofs.Rounds.{turned_done, Round, round_begun, goes_on, round_next, round_done, joined_full}
+use Rattle.tables.proofs.Rounds.{turned_done, Round, round_begun, round_next, round_full}
 use Rattle.tables.proofs.StatesSeen.{found_has, stored_map, remember_stored}
 use Rattle.tables.proofs.Choosing.{ready_less, chosen_standing}
 
@@ -28,10 +28,10 @@ module _ {n : ℕ} {P P' : ℕ → ℕ → Type 0} (wider : (k x : ℕ) → k < 
   over_widen : Over n P → Over n P'
   over_widen o = record { kind = o.kind; below = o.below; list = o.list; rising = o.rising; many = o.many; all = λ x m. wider o.kind x o.below (o.all x m) }
 
-  pub turned_widen : {D : Type 0} {s c s' c' : List ℕ} (r : Turn) → Turned n P D s c s' c' r → Turned n P' D s c s' c' r
-  turned_widen Still u = record { fine = fine_widen u.fine; kept = u.kept; case = u.case }
-  turned_widen Added u = record { fine = fine_widen u.fine; kept = u.kept; case = u.case }
-  turned_widen Full u = record { fine = fine_widen u.fine; kept = u.kept; case = over_widen u.case }
+  pub turned_widen : {D : Type 0} {s c s' c' : List ℕ} (r : Result Bool Full) → Turned n P D s c s' c' r → Turned n P' D s c s' c' r
+  turned_widen (Ok false) u = record { fine = fine_widen u.fine; kept = u.kept; case = u.case }
+  turned_widen (Ok true) u = record { fine = fine_widen u.fine; kept = u.kept; case = u.case }
+  turned_widen (Err e) u = record { fine = fine_widen u.fine; kept = u.kept; case = over_widen u.case }
 
 -- sets in order hold what they hold
 pub fine_own : {n : ℕ} {P : ℕ → ℕ → Type 0} {s c : List ℕ} → Fine n P s c → Fine n (Has s c) s c
@@ -42,7 +42,7 @@ pub gathered_stays : {n k : ℕ} {Q : ℕ → Type 0} {s c s' c' : List ℕ} →
 gathered_stays {k = k} h u g x q = u.stays k x h (g x q)
 
 -- the same things gathered, otherwise described
-pub gathers_map : {k : ℕ} {Q Q' : ℕ → Type 0} {s c s' c' : List ℕ} {r : Turn} → ((x : ℕ) → Q x ↔ Q' x) → Gathers k Q s c s' c' r → Gathers k Q' s c s' c' r
+pub gathers_map : {k : ℕ} {Q Q' : ℕ → Type 0} {s c s' c' : List ℕ} {r : Result Bool Full} → ((x : ℕ) → Q x ↔ Q' x) → Gathers k Q s c s' c' r → Gathers k Q' s c s' c' r
 gathers_map {r = r} e g n h f =
     turned_map r (λ d x q. d x ((e x).1 q)) (turned_widen (λ k x b o. ⊎_elim inl (λ (a, q). inr (a, (e x).0 q)) o) r (g n h f))
 
@@ -71,27 +71,31 @@ module _ (v : Visit) (l : List ℕ) where
   done_stays h u t = stored_map (λ j w g x q. u.stays v.kind x h (g x q)) t
 
   -- ---- no turn is left
-  pub reply_none : {u kept s c s' c' : List ℕ} {r : Turn} → Request v l 0 u kept s c → Put v.kind (code_on v.target v.width u) s c s' c' r → Reply v l 0 u s c kept s' c' r
+  pub reply_none : {u kept s c s' c' : List ℕ} (r : Result Bool Full) → Request v l 0 u kept s c → Put v.kind (code_on v.target v.width u) s c s' c' r → Reply v l 0 u s c kept s' c' r
   unfolding Yields
-  reply_none {u} {kept} {s} {c} {s'} {c'} {r} q p = record {
+  reply_none {u} {kept} {s} {c} {s'} {c'} r q p = record {
     turned = turns;
-    seen = λ z. let o = q.order in done_stays o.below (turns o.kinds o.below o.fine).kept q.seen;
+    seen = all_seen r (let o = q.order in done_stays o.below (turns o.kinds o.below o.fine).kept q.seen);
   }
     where
       turns : (n : ℕ) → v.kind < n → Fine n (Has s c) s c
           → Turned n (OldOr s c v.kind (Yields v l 0 u)) (Gathered v.kind (Yields v l 0 u) s' c') s c s' c' r
       turns n h f = turned_map r (λ m x e. subst (Has s' c' v.kind) (sym e) m) (put_turned r (fine_widen (λ k x b m. inl m) f) h (inr (refl, refl)) p)
 
+      all_seen : {T E : Type 0} {P : Type 0} (r : Result T E) → P → OnOk r P
+      all_seen (Ok x) p = p
+      all_seen (Err x) p = tt
+
   module _ (j : ℕ) (u : List ℕ) where
     -- ---- the state was met before
-    pub reply_known : {kept s c : List ℕ} → Request v l (suc j) u kept s c → Found kept (suc j) u → Reply v l (suc j) u s c kept s c Still
+    pub reply_known : {kept s c : List ℕ} → Request v l (suc j) u kept s c → Found kept (suc j) u → Reply v l (suc j) u s c kept s c (Ok false)
     reply_known {kept} {s} {c} q e = record {
       turned = λ n h f. record {
         fine = fine_widen (λ k x b m. inl m) f;
         kept = kept_refl n s c;
         case = (refl, refl, found_has q.seen (omega (arith, q.ready.few)) e);
       };
-      seen = λ z. q.seen;
+      seen = q.seen;
     }
 
     -- ---- the loop over the codes of turn j
@@ -99,70 +103,66 @@ module _ (v : Visit) (l : List ℕ) where
     abbrev pub ChoiceIn : List ℕ → List ℕ → ℕ → Type 0
     ChoiceIn s c i = Gathered v.kind (Yields v l j (chosen v j (code_of l j i) u)) s c
 
-    pub record Looping (end : ℕ) (s₀ c₀ kept s c : List ℕ) (t : Turn) (i : ℕ) : Type 0 where
-      pub round : (n : ℕ) → v.kind < n → Fine n (Has s₀ c₀) s₀ c₀ → Round n (OldOr s₀ c₀ v.kind (Yields v l (suc j) u)) ChoiceIn end s₀ c₀ s c t i
-      pub seen : (t ≡ Full → ⊥) → Stored (Done v l s c) kept
-      pub long : length kept ≡ seen_bytes
+    pub record Looping (s₀ c₀ kept s c : List ℕ) (added : Bool) (i : ℕ) : Type 0 where
+      pub round : (n : ℕ) → v.kind < n → Fine n (Has s₀ c₀) s₀ c₀ → Round n (OldOr s₀ c₀ v.kind (Yields v l (suc j) u)) ChoiceIn s₀ c₀ s c added i
+      pub seen : Stored (Done v l s c) kept
 
-    pub loop_begun : (end : ℕ) {kept s c : List ℕ} → Request v l (suc j) u kept s c → Looping end s c kept s c Still 0
-    loop_begun end {kept} {s} {c} q = record {
-      round = λ n h f. round_begun ChoiceIn end (fine_widen (λ k x b m. inl m) f);
-      seen = λ z. q.seen;
-      long = q.seen.long;
-    }
+    pub loop_begun : {kept s c : List ℕ} → Request v l (suc j) u kept s c → Looping s c kept s c false 0
+    loop_begun {kept} {s} {c} q = record { round = λ n h f. round_begun ChoiceIn (fine_widen (λ k x b m. inl m) f); seen = q.seen }
 
-    module _ {end : ℕ} {s₀ c₀ kept₀ kept s c : List ℕ} {t : Turn} {i : ℕ} (q : Request v l (suc j) u kept₀ s₀ c₀) (h : Looping end s₀ c₀ kept s c t i) where
-      now_round : Round q.order.kinds (OldOr s₀ c₀ v.kind (Yields v l (suc j) u)) ChoiceIn end s₀ c₀ s c t i
+    module _ {s₀ c₀ kept₀ kept s c : List ℕ} {a : Bool} {i : ℕ} (q : Request v l (suc j) u kept₀ s₀ c₀) (h : Looping s₀ c₀ kept s c a i) where
+      now_round : Round q.order.kinds (OldOr s₀ c₀ v.kind (Yields v l (suc j) u)) ChoiceIn s₀ c₀ s c a i
       now_round = h.round q.order.kinds q.order.below q.order.fine
 
       -- no slice has another length
       pub loop_long : length s ≡ length s₀
-      loop_long = now_round.turned.kept.long
+      loop_long = now_round.kept.long
 
       pub loop_long_c : length c ≡ length c₀
-      loop_long_c = now_round.turned.kept.long_c
+      loop_long_c = now_round.kept.long_c
 
       pub loop_long_seen : length kept ≡ length kept₀
-      loop_long_seen = h.long ∙ sym q.seen.long
+      loop_long_seen = h.seen.long ∙ sym q.seen.long
 
       module _ {w : List ℕ} (e : w ≡ chosen v j (code_of l j i) u) where
-        pub loop_request : i < end → Request v l j w kept s c
-        loop_request b = record {
+        pub loop_request : Request v l j w kept s c
+        loop_request = record {
           ready = ready_less q.ready;
           standing = rw e (chosen_standing q.ready q.standing (code_of l j i));
           lists = q.lists;
-          order = record { kinds = q.order.kinds; below = q.order.below; fine = fine_own now_round.turned.fine };
-          seen = h.seen (goes_on now_round b);
+          order = record { kinds = q.order.kinds; below = q.order.below; fine = fine_own now_round.fine };
+          seen = h.seen;
         }
 
-        module _ {kept' s' c' : List ℕ} {r : Turn} (l' : i < size_of v j) (p : Reply v l j w s c kept' s' c' r) where
-          came : (x : ℕ) → Yields v l j w x → Yields v l (suc j) u x
-          unfolding Yields
-          came x y = (i, l', subst (λ w. Yields v l j w x) e y)
+        came : i < size_of v j → (x : ℕ) → Yields v l j w x → Yields v l (suc j) u x
+        unfolding Yields
+        came l' x y = (i, l', subst (λ w. Yields v l j w x) e y)
 
-          turn : (n : ℕ) → v.kind < n → Fine n (Has s₀ c₀) s₀ c₀
+        module _ {kept' s' c' : List ℕ} (l' : i < size_of v j) where
+          turn : (r : Result Bool Full) → Reply v l j w s c kept' s' c' r → (n : ℕ) → v.kind < n → Fine n (Has s₀ c₀) s₀ c₀
               → Turned n (OldOr s₀ c₀ v.kind (Yields v l (suc j) u)) (ChoiceIn s' c' i) s c s' c' r
-          turn n b f =
-              let g = (h.round n b f).turned in
+          turn r p n b f =
+              let g = h.round n b f in
               turned_map r (λ d x y. d x (subst (λ w. Yields v l j w x) (sym e) y))
-              (turned_widen (λ k x m o. ⊎_elim (g.fine.only k x m) (λ (a, y). inr (a, came x y)) o) r (p.turned n b (fine_own g.fine)))
+              (turned_widen (λ k x m o. ⊎_elim (g.fine.only k x m) (λ (a, y). inr (a, came l' x y)) o) r (p.turned n b (fine_own g.fine)))
 
-          pub loop_next : {t' : Turn} {i' : ℕ} → i < end → length kept' ≡ length kept → t' ≡ joined t r → i' ≡ beyond t' i end → Looping end s₀ c₀ kept' s' c' t' i'
-          loop_next b same z z' = record {
-            round = λ n m f. round_next (h.round n m f) b (λ s c s' c' i k d. gathered_stays m k d) (turn n m f) z z';
-            seen = λ y. p.seen (λ x. y (z ∙ joined_full t r x));
-            long = same ∙ h.long;
+          pub loop_next : (b : Bool) → Reply v l j w s c kept' s' c' (Ok b) → Looping s₀ c₀ kept' s' c' (a || b) (i + 1)
+          loop_next b p = record {
+            round = λ n m f. round_next ChoiceIn a b (λ s c s' c' i k d. gathered_stays m k d) (h.round n m f) (turn (Ok b) p n m f);
+            seen = p.seen;
           }
+
+          -- some set is over-full
+          pub loop_full : (o o' : Full) → Reply v l j w s c kept' s' c' (Err o) → Reply v l (suc j) u s₀ c₀ kept' s' c' (Err o')
+          loop_full o o' p = record { turned = λ n m f. round_full (h.round n m f) (turn (Err o) p n m f); seen = tt }
 
       module _ (past : size_of v j ≤ i) where
         all_in : ((k : ℕ) → k < i → ChoiceIn s c k) → Gathered v.kind (Yields v l (suc j) u) s c
         unfolding Yields
         all_in d x (k, b, y) = d k (omega arith) x y
 
-        loop_remembered : (t ≡ Full → ⊥) → Stored (Done v l s c) (remembered kept (suc j) u)
-        loop_remembered z =
-            remember_stored (h.seen z) (suc j) (omega (arith, q.ready.few)) u q.standing.state.long (all_in (turned_done t z now_round.turned))
-
-        -- whatever was added, also where some set is over-full
-        pub loop_end : {kept' : List ℕ} → kept' ≡ remembered kept (suc j) u → Reply v l (suc j) u s₀ c₀ kept' s c t
-        loop_end e = record { turned = λ n b f. round_done (h.round n b f) all_in; seen = λ z. rw e (loop_remembered z) }
+        pub loop_end : {kept' : List ℕ} → kept' ≡ remembered kept (suc j) u → Reply v l (suc j) u s₀ c₀ kept' s c (Ok a)
+        loop_end e = record {
+          turned = λ n b f. turned_map (Ok a) all_in (h.round n b f);
+          seen = rw e (remember_stored h.seen (suc j) (omega (arith, q.ready.few)) u q.standing.state.long (all_in (turned_done a now_round)));
+        }

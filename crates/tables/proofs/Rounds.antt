@@ -48,9 +48,9 @@ module _ {n : ℕ} {P : ℕ → ℕ → Type 0} (D : List ℕ → List ℕ → �
       record { fine = u.fine; kept = kept_trans h.kept u.kept; case = (omega arith, below_more _ _ (λ i l. lasts s c s' c' i u.kept (d i l)) d') }
 
 -- the last, where some set is over-full
-pub round_full : {n : ℕ} {P : ℕ → ℕ → Type 0} {D E F : Type 0} {s₀ c₀ s c s' c' : List ℕ} {a : Bool} (e : Full) → Turned n P D s₀ c₀ s c (Ok a) → Turned n P E s c s' c' (Err e)
-    → Turned n P F s₀ c₀ s' c' (Err e)
-round_full e h u = record { fine = u.fine; kept = kept_trans h.kept u.kept; case = u.case }
+pub round_full : {n : ℕ} {P : ℕ → ℕ → Type 0} {D E F : Type 0} {s₀ c₀ s c s' c' : List ℕ} {a : Bool} {o o' : Full} → Turned n P D s₀ c₀ s c (Ok a) → Turned n P E s c s' c' (Err o)
+    → Turned n P F s₀ c₀ s' c' (Err o')
+round_full h u = record { fine = u.fine; kept = kept_trans h.kept u.kept; case = u.case }
 
 -- ── a sweep: a turn for each production, and marks ──
 pub record OnSweep (n : ℕ) (P : ℕ → ℕ → Type 0) (D : List ℕ → List ℕ → ℕ → Type 0) (Marks : List ℕ → List ℕ → List ℕ → Type 0) (s₀ c₀ marks s c : List ℕ) (added : Bool) (p : ℕ) : Type 0 where
@@ -72,8 +72,8 @@ module _ {n : ℕ} {P : ℕ → ℕ → Type 0} (D : List ℕ → List ℕ → �
     long = same ∙ h.long;
   }
 
-  pub sweep_full : {E F : Type 0} {M M' : List ℕ → List ℕ → Type 0} {s' c' : List ℕ} (e : Full) → Attended n P E M s c s' c' (Err e) → Attended n P F M' s₀ c₀ s' c' (Err e)
-  sweep_full e u = record { turned = round_full e h.round u.turned; marked = tt }
+  pub sweep_full : {E F : Type 0} {M M' : List ℕ → List ℕ → Type 0} {s' c' : List ℕ} {o o' : Full} → Attended n P E M s c s' c' (Err o) → Attended n P F M' s₀ c₀ s' c' (Err o')
+  sweep_full u = record { turned = round_full h.round u.turned; marked = tt }
 
   pub sweep_done : (F : Type 0) → (((i : ℕ) → i < p → D s c i) → F) → Attended n P F (Marks marks) s₀ c₀ s c (Ok a)
   sweep_done F g = record { turned = turned_map (Ok a) g h.round; marked = h.marked }

@@ -177,8 +177,8 @@ module _ {n : ℕ} {P : ℕ → ℕ → Type 0} {Marks : List ℕ → List ℕ �
     over = tt;
   }
 
-  pub close_full : {C : Type 0} (e : Full) → Attended n P E (Marks marks') s c s' c' (Err e) → Swept n P C s₀ c₀ s' c' (Err e)
-  close_full e u = record { fine = u.turned.fine; kept = kept_trans h.kept u.turned.kept; closed = tt; over = u.turned.case }
+  pub close_full : {C : Type 0} {o o' : Full} → Attended n P E (Marks marks') s c s' c' (Err o) → Swept n P C s₀ c₀ s' c' (Err o')
+  close_full u = record { fine = u.turned.fine; kept = kept_trans h.kept u.turned.kept; closed = tt; over = u.turned.case }
 
 -- ---- a pass after a pass
 -- sets that hold exactly what has P, whatever stood there before

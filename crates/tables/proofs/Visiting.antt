@@ -1,16 +1,17 @@
 -- A visit made: from the base of its production, with no state seen yet.
 use mathlib.Core.Path.{◌≡◌, refl, subst}
 use mathlib.Core.Logic.{inl}
+use mathlib.Core.Bool.{Bool, false}
 use mathlib.Core.List.{List}
 use Prim.Native.Nat.{ℕ, zero, suc}
 use native.Mathlib.Omega.{arith}
 use lib.ListN.{replicate}
+use Rattle.std.specs.Prelude.{Result, Ok}
 use Rattle.lists.proofs.Order.{by_order}
 use Rattle.tables.specs.State.{based}
 use Rattle.tables.specs.Seen.{seen_bytes}
 use Rattle.tables.specs.Visit.{size_of, code_of, chosen, Yields, Gathers, Done, Request, Reply, Barren, Prepared}
-use Rattle.members.specs.declared.Turn.{Turn}
-use Rattle.members.specs.declared.Turn.TheVariants.{Still}
+use Rattle.members.specs.declared.Full.{Full}
 use Rattle.tables.specs.declared.gather.Visit.{Visit}
 use Rattle.tables.proofs.Memory.{kept_refl}
 use Rattle.tables.proofs.StatesSeen.{stored_none}
@@ -24,7 +25,7 @@ module _ (v : Visit) (l : List ℕ) where
   none_yields (suc j) (i, b, e) s x (r, h, y) =
       by_order ⊥ i j (λ q. let z : size_of v j ≡ 0 = rw q at e in omega arith) (λ q. none_yields j (i, q, e) (chosen v j (code_of l j r) s) x y) (λ q. omega arith)
 
-  pub visit_barren : (j : ℕ) (u s c : List ℕ) → Barren v j → Gathers v.kind (Yields v l j u) s c s c Still
+  pub visit_barren : (j : ℕ) (u s c : List ℕ) → Barren v j → Gathers v.kind (Yields v l j u) s c s c (Ok false)
   visit_barren j u s c h n b f = record {
     fine = fine_widen (λ k x b m. inl m) f;
     kept = kept_refl n s c;
@@ -35,5 +36,5 @@ module _ (v : Visit) (l : List ℕ) where
     pub visit_request : Prepared b at v n l s c → Request v l n u (replicate seen_bytes 0) s c
     visit_request h = record { ready = h.ready; standing = rw e h.standing; lists = h.lists; order = h.order; seen = stored_none (Done v l s c) }
 
-    pub visit_done : {kept s' c' : List ℕ} {r : Turn} → Reply v l n u s c kept s' c' r → Gathers v.kind (Yields v l n (based b at)) s c s' c' r
+    pub visit_done : {kept s' c' : List ℕ} {r : Result Bool Full} → Reply v l n u s c kept s' c' r → Gathers v.kind (Yields v l n (based b at)) s c s' c' r
     visit_done {s' = s'} {c'} {r} p = subst (λ u. Gathers v.kind (Yields v l n u) s c s' c' r) e p.turned

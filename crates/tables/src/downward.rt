@@ -14,9 +14,8 @@ ghost use Rattle.tables.specs.Downward.{slot_down, given, DownVisited, DownServe
 
 use super::gather::Visit;
 use super::sets::{MAX_MEMBERS, copy_members};
-use super::turns::{beyond, joined};
 use super::visit::{LIST_PLACES, MARKS, looking_at, open_turn, visit};
-use members::Turn;
+use members::Full;
 
 // The slot of turn j in a visit for the child in slot t, which is tied last.
 fn slot_down(t: u8, j: u8) -> u8
@@ -72,10 +71,8 @@ fn prepare_down(
 {
     let n = book::arity(book, at);
     let mut v = looking_at(book, at, t);
-    let mut j: u8 = 0;
-    while j <= n {
+    for j in 0..=n {
         v = open_down(v, j, t, book, at, plausible, counts, feasible, tally, lists);
-        j += 1;
     }
     v
 }
@@ -89,7 +86,7 @@ fn visit_down(
     counts: &[u8],
     feasible: &mut [u32],
     tally: &mut [u8],
-) -> Turn
+) -> Result<bool, Full>
     requires { Accepted book.now × ((p : ℕ) × (j : ℕ) × (p < prods book.now) × (at ≡ entry book.now p) × (j < length ((grammar book.now).kids p)) × (t ≡ suc j))
         × Fine (kinds book.now) (Plausible (grammar book.now)) plausible.now counts.now
         × Fine (kinds book.now) (Has feasible.old tally.old) feasible.old tally.old }
@@ -118,7 +115,7 @@ fn serve_down(
     counts: &[u8],
     feasible: &mut [u32],
     tally: &mut [u8],
-) -> Turn
+) -> Result<bool, Full>
     requires { Accepted book.now × ((p : ℕ) × (p < prods book.now) × (at ≡ entry book.now p))
         × Fine (kinds book.now) (Plausible (grammar book.now)) plausible.now counts.now
         × Fine (kinds book.now) (Feasible (grammar book.now)) feasible.old tally.old }
@@ -127,17 +124,11 @@ fn serve_down(
         (DownServed book.now plausible.now counts.now p feasible.old tally.old feasible.new tally.new)
         feasible.old tally.old feasible.new tally.new result }
 {
-    let n = book::arity(book, at) as usize;
-    let mut turn = Turn::Still;
-    let mut j = 0;
-    while j < n {
-        turn = joined(
-            turn,
-            visit_down(book, at, (j + 1) as u8, plausible, counts, feasible, tally),
-        );
-        j = beyond(turn, j, n);
+    let mut added = false;
+    for j in 0..book::arity(book, at) {
+        added |= visit_down(book, at, j + 1, plausible, counts, feasible, tally)?;
     }
-    turn
+    Ok(added)
 }
 
 // Production p's turn in a sweep. It is passed over where its left kind has no more feasible groupings than at its last visit: all its results are in.
@@ -150,7 +141,7 @@ fn attend_down(
     counts: &[u8],
     feasible: &mut [u32],
     tally: &mut [u8],
-) -> Turn
+) -> Result<bool, Full>
     requires { Accepted book.now × (p < prods book.now) × (at ≡ entry book.now p) × (length marks.old ≡ max_prods)
         × Fine (kinds book.now) (Plausible (grammar book.now)) plausible.now counts.now
         × Fine (kinds book.now) (Feasible (grammar book.now)) feasible.old tally.old
@@ -162,7 +153,7 @@ fn attend_down(
 {
     let mark = tally[book::left(book, at) as usize] as u16 + 1;
     if marks[p] == mark {
-        return Turn::Still;
+        return Ok(false);
     }
     marks[p] = mark;
     serve_down(book, at, plausible, counts, feasible, tally)
@@ -177,7 +168,7 @@ fn sweep_down(
     counts: &[u8],
     feasible: &mut [u32],
     tally: &mut [u8],
-) -> Turn
+) -> Result<bool, Full>
     requires { Accepted book.now × Index book.now places.now × (length marks.old ≡ max_prods)
         × Fine (kinds book.now) (Plausible (grammar book.now)) plausible.now counts.now
         × Fine (kinds book.now) (Feasible (grammar book.now)) feasible.old tally.old
@@ -188,21 +179,16 @@ fn sweep_down(
         feasible.old tally.old feasible.new tally.new result }
 {
     let n = book::productions(book) as usize;
-    let mut turn = Turn::Still;
-    let mut p = 0;
-    while p < n {
-        turn = joined(
-            turn,
-            attend_down(
-                book, places[p], p, marks, plausible, counts, feasible, tally,
-            ),
-        );
-        p = beyond(turn, p, n);
+    let mut added = false;
+    for p in 0..n {
+        added |= attend_down(
+            book, places[p], p, marks, plausible, counts, feasible, tally,
+        )?;
     }
-    turn
+    Ok(added)
 }
 
-// Sweeps until one adds nothing; false where some set would be over-full.
+// Sweeps until one adds nothing.
 fn close_down(
     book: &[u8],
     places: &[usize],
@@ -210,7 +196,7 @@ fn close_down(
     counts: &[u8],
     feasible: &mut [u32],
     tally: &mut [u8],
-) -> bool
+) -> Result<(), Full>
     requires { Accepted book.now × Index book.now places.now
         × Fine (kinds book.now) (Plausible (grammar book.now)) plausible.now counts.now
         × Fine (kinds book.now) (Feasible (grammar book.now)) feasible.old tally.old }
@@ -219,17 +205,8 @@ fn close_down(
         feasible.old tally.old feasible.new tally.new result }
 {
     let mut marks = [0u16; MARKS];
-    loop {
-        match sweep_down(book, places, &mut marks, plausible, counts, feasible, tally) {
-            Turn::Still => {
-                return true;
-            }
-            Turn::Added => {}
-            Turn::Full => {
-                return false;
-            }
-        }
-    }
+    while sweep_down(book, places, &mut marks, plausible, counts, feasible, tally)? {}
+    Ok(())
 }
 
 // The start's feasible groupings are its plausible ones.
@@ -244,8 +221,8 @@ fn seed(book: &[u8], plausible: &[u32], counts: &[u8], feasible: &mut [u32], tal
     tally[k] = n;
 }
 
-// The feasible groupings of every kind, from the plausible ones; false where some kind has more than a set can hold. Whatever stood in the sets before decides
-// nothing.
+// The feasible groupings of every kind, from the plausible ones, unless some kind has more than a set can hold. Whatever stood in the sets before
+// decides nothing.
 pub fn downward(
     book: &[u8],
     places: &[usize],
@@ -253,7 +230,7 @@ pub fn downward(
     counts: &[u8],
     feasible: &mut [u32],
     tally: &mut [u8],
-) -> bool
+) -> Result<(), Full>
     requires { Accepted book.now × Index book.now places.now × Exact (kinds book.now) (Plausible (grammar book.now)) plausible.now counts.now
         × (kinds book.now * max_members ≤ length feasible.old) × (kinds book.now ≤ length tally.old) }
     ensures { Outcome (kinds book.now) (Feasible (grammar book.now))

@@ -9,8 +9,7 @@ ghost use Rattle.tables.specs.Visit.{max_turns, size_of, Ready, Standing, InOrde
 use super::labels::{LABELS, SLOTS, forget, tidy, tie, view};
 use super::seen::{known, remember};
 use super::sets::MAX_MEMBERS;
-use super::turns::{beyond, joined};
-use members::Turn;
+use members::Full;
 
 // A visit of a production: the slots whose codes are chosen, in turn, the last one first, each with its number of settings and of codes; and the
 // slot that the results are seen on, with its number of settings and its kind.
@@ -48,7 +47,7 @@ fn choose(v: Visit, j: usize, code: u32, s: &[u8; LABELS]) -> [u8; LABELS]
 }
 
 // All turns are over: what the state says on the slot looked at is put into the kind's set.
-fn enter(v: Visit, s: &[u8; LABELS], sets: &mut [u32], counts: &mut [u8]) -> Turn
+fn enter(v: Visit, s: &[u8; LABELS], sets: &mut [u32], counts: &mut [u8]) -> Result<bool, Full>
     requires { Ready v 0 × Standing v 0 s.now × InOrder v.kind sets.old counts.old }
     ensures { Put v.kind (code_on v.target v.width s.now) sets.old counts.old sets.new counts.new result }
 {
@@ -73,7 +72,7 @@ pub fn gather(
     seen: &mut [u8],
     sets: &mut [u32],
     counts: &mut [u8],
-) -> Turn
+) -> Result<bool, Full>
     requires { Request v lists.now j s.now seen.old sets.old counts.old }
     ensures { Reply v lists.now j s.now sets.old counts.old seen.new sets.new counts.new result }
 {
@@ -81,17 +80,15 @@ pub fn gather(
         return enter(v, s, sets, counts);
     }
     if known(seen, j, s) {
-        return Turn::Still;
+        return Ok(false);
     }
     let k = j - 1;
     let n = codes(v, k);
-    let mut turn = Turn::Still;
-    let mut i = 0;
-    while i < n {
+    let mut added = false;
+    for i in 0..n {
         let t = choose(v, k, lists[k * MAX_MEMBERS + i], s);
-        turn = joined(turn, gather(v, k, &t, lists, seen, sets, counts));
-        i = beyond(turn, i, n);
+        added |= gather(v, k, &t, lists, seen, sets, counts)?;
     }
     remember(seen, j, s);
-    turn
+    Ok(added)
 }

@@ -13,9 +13,8 @@ ghost use Rattle.tables.specs.Upward.{UpVisited, UpServed, UpMarks, UpSwept, UpC
 
 use super::gather::Visit;
 use super::sets::MAX_MEMBERS;
-use super::turns::{beyond, joined};
 use super::visit::{LIST_PLACES, MARKS, looking_at, open_turn, visit};
-use members::Turn;
+use members::Full;
 
 // The children in turn, from the first; the results are seen on the left kind.
 fn prepare_up(book: &[u8], at: usize, sets: &[u32], counts: &[u8], lists: &mut [u32]) -> Visit
@@ -25,16 +24,14 @@ fn prepare_up(book: &[u8], at: usize, sets: &[u32], counts: &[u8], lists: &mut [
 {
     let n = book::arity(book, at);
     let mut v = looking_at(book, at, 0);
-    let mut j: u8 = 0;
-    while j < n {
+    for j in 0..n {
         v = open_turn(v, j as usize, j + 1, book, at, sets, counts, lists);
-        j += 1;
     }
     v
 }
 
 // All results of the production whose entry stands at `at`, over the sets as they stand, put into its left kind's set.
-fn visit_up(book: &[u8], at: usize, sets: &mut [u32], counts: &mut [u8]) -> Turn
+fn visit_up(book: &[u8], at: usize, sets: &mut [u32], counts: &mut [u8]) -> Result<bool, Full>
     requires { Accepted book.now × ((p : ℕ) × (p < prods book.now) × (at ≡ entry book.now p))
         × Fine (kinds book.now) (Has sets.old counts.old) sets.old counts.old }
     ensures { (p : ℕ) → p < prods book.now → at ≡ entry book.now p
@@ -60,10 +57,8 @@ fn watched_up(book: &[u8], at: usize, counts: &[u8]) -> u16
 {
     let n = book::arity(book, at);
     let mut sum: u16 = 1;
-    let mut i: u8 = 0;
-    while i < n {
+    for i in 0..n {
         sum += counts[book::kid(book, at, i) as usize] as u16;
-        i += 1;
     }
     sum
 }
@@ -76,7 +71,7 @@ fn attend_up(
     marks: &mut [u16],
     sets: &mut [u32],
     counts: &mut [u8],
-) -> Turn
+) -> Result<bool, Full>
     requires { Accepted book.now × (p < prods book.now) × (at ≡ entry book.now p) × (length marks.old ≡ max_prods)
         × Fine (kinds book.now) (Plausible (grammar book.now)) sets.old counts.old × UpMarks book.now marks.old sets.old counts.old }
     ensures { Attended (kinds book.now) (Plausible (grammar book.now))
@@ -86,7 +81,7 @@ fn attend_up(
 {
     let mark = watched_up(book, at, counts);
     if marks[p] == mark {
-        return Turn::Still;
+        return Ok(false);
     }
     marks[p] = mark;
     visit_up(book, at, sets, counts)
@@ -99,7 +94,7 @@ fn sweep_up(
     marks: &mut [u16],
     sets: &mut [u32],
     counts: &mut [u8],
-) -> Turn
+) -> Result<bool, Full>
     requires { Accepted book.now × Index book.now places.now × (length marks.old ≡ max_prods)
         × Fine (kinds book.now) (Plausible (grammar book.now)) sets.old counts.old × UpMarks book.now marks.old sets.old counts.old }
     ensures { Attended (kinds book.now) (Plausible (grammar book.now))
@@ -108,38 +103,37 @@ fn sweep_up(
         sets.old counts.old sets.new counts.new result }
 {
     let n = book::productions(book) as usize;
-    let mut turn = Turn::Still;
-    let mut p = 0;
-    while p < n {
-        turn = joined(turn, attend_up(book, places[p], p, marks, sets, counts));
-        p = beyond(turn, p, n);
+    let mut added = false;
+    for p in 0..n {
+        added |= attend_up(book, places[p], p, marks, sets, counts)?;
     }
-    turn
+    Ok(added)
 }
 
-// Sweeps until one adds nothing; false where some set would be over-full.
-fn close_up(book: &[u8], places: &[usize], sets: &mut [u32], counts: &mut [u8]) -> bool
+// Sweeps until one adds nothing.
+fn close_up(
+    book: &[u8],
+    places: &[usize],
+    sets: &mut [u32],
+    counts: &mut [u8],
+) -> Result<(), Full>
     requires { Accepted book.now × Index book.now places.now × Fine (kinds book.now) (Plausible (grammar book.now)) sets.old counts.old }
     ensures { Swept (kinds book.now) (Plausible (grammar book.now))
         (UpClosed book.now sets.new counts.new)
         sets.old counts.old sets.new counts.new result }
 {
     let mut marks = [0u16; MARKS];
-    loop {
-        match sweep_up(book, places, &mut marks, sets, counts) {
-            Turn::Still => {
-                return true;
-            }
-            Turn::Added => {}
-            Turn::Full => {
-                return false;
-            }
-        }
-    }
+    while sweep_up(book, places, &mut marks, sets, counts)? {}
+    Ok(())
 }
 
-// The plausible groupings of every kind; false where some kind has more than a set can hold. Whatever stood in the sets before decides nothing.
-pub fn upward(book: &[u8], places: &[usize], sets: &mut [u32], counts: &mut [u8]) -> bool
+// The plausible groupings of every kind, unless some kind has more than a set can hold. Whatever stood in the sets before decides nothing.
+pub fn upward(
+    book: &[u8],
+    places: &[usize],
+    sets: &mut [u32],
+    counts: &mut [u8],
+) -> Result<(), Full>
     requires { Accepted book.now × Index book.now places.now × (kinds book.now * max_members ≤ length sets.old) × (kinds book.now ≤ length counts.old) }
     ensures { Outcome (kinds book.now) (Plausible (grammar book.now))
         sets.old counts.old sets.new counts.new result }

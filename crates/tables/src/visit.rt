@@ -10,7 +10,7 @@ use super::gather::{Visit, gather};
 use super::labels::{LABELS, NONE, SLOTS, base, width};
 use super::seen::SEEN_BYTES;
 use super::sets::{MAX_MEMBERS, copy_members};
-use members::Turn;
+use members::Full;
 
 // A mark for each production, by which a visit is spared.
 pub const MARKS: usize = book::limits::MAX_PRODUCTIONS as usize;
@@ -80,13 +80,13 @@ pub fn visit(
     lists: &[u32],
     sets: &mut [u32],
     counts: &mut [u8],
-) -> Turn
+) -> Result<bool, Full>
     requires { Prepared book.now at v turns lists.now sets.old counts.old }
     ensures { Gathers v.kind (Yields v lists.now turns (based book.now at))
         sets.old counts.old sets.new counts.new result }
 {
     if barren(v, turns) {
-        return Turn::Still;
+        return Ok(false);
     }
     let mut s = [NONE; LABELS];
     base(book, at, &mut s);

@@ -1,6 +1,6 @@
 -- All slots in turn. Assumes nothing.
 use mathlib.Core.Path.{◌≡◌, refl}
-use Prim.Native.Nat.{suc}
+use Prim.Native.Nat.{suc, ◌+◌}
 use Rattle.book.specs.Format.{arity_at}
 use Rattle.tables.specs.Downward.{slot_down}
 use Rattle.tables.proofs.Opening.{opening_more}
@@ -28,7 +28,13 @@ loop-j-preserved c =
     (omega arith, opening_more h.1 (omega arith) refl refl (given_placed (slot_down c.args.t j) (f _ k) (s _ k)) c.open_down-v.ensures)
 
 pub returns : goal.returns
-returns c =
+returns c = absurd (omega arith)
+
+pub returns-2 : goal.returns-2
+returns-2 c =
     let h = c.loop-j.invariant in
-    let e : c.loop-j.j ≡ suc (arity_at c.args.book.now c.args.at) = omega arith in
-    rw (← e) h.1
+    let (few, low, long, s, f) = c.requires in
+    let j = c.loop-j.j in
+    let k = slot_within c.args.t j _ low (omega arith) in
+    let e : c.loop-j.j + 1 ≡ suc (arity_at c.args.book.now c.args.at) = omega arith in
+    rw (← e) (opening_more h.1 (omega arith) refl refl (given_placed (slot_down c.args.t j) (f _ k) (s _ k)) c.open_down-v.ensures)

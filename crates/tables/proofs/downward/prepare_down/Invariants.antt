@@ -6,6 +6,3 @@ use Rattle.tables.proofs.downward.prepare_down.Given as goal
 
 abbrev pub invariant-loop-j : goal.invariant-loop-j
 invariant-loop-j l = (l.j ≤ l.n + 1) × Opening l.book l.at l.t (slot_down l.t) (λ i. given l.feasible l.plausible (slot_down l.t i)) (λ i. given l.tally l.counts (slot_down l.t i)) l.v l.lists l.j
-
-abbrev pub decreases-loop-j : goal.decreases-loop-j
-decreases-loop-j l = l.n + 1 - l.j

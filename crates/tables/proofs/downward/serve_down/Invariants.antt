@@ -1,6 +1,6 @@
 -- A visit for each child. Assumes nothing.
 use mathlib.Core.Path.{◌≡◌}
-use Prim.Native.Nat.{ℕ, ◌<◌, ◌-◌}
+use Prim.Native.Nat.{ℕ, ◌<◌}
 use Rattle.chains.specs.Feasible.{Feasible}
 use Rattle.book.specs.Format.{entry, kinds, prods, grammar}
 use Rattle.tables.proofs.Rounds.{Round}
@@ -9,7 +9,4 @@ use Rattle.tables.proofs.downward.serve_down.Given as goal
 
 abbrev pub invariant-loop-j : goal.invariant-loop-j
 invariant-loop-j l = (p : ℕ) → p < prods l.book → l.at ≡ entry l.book p
-    → Round (kinds l.book) (Feasible (grammar l.book)) (DownVisit l.book l.plausible l.counts p l.initial.feasible l.initial.tally) l.n l.initial.feasible l.initial.tally l.feasible l.tally l.turn l.j
-
-abbrev pub decreases-loop-j : goal.decreases-loop-j
-decreases-loop-j l = l.n - l.j
+    → Round (kinds l.book) (Feasible (grammar l.book)) (DownVisit l.book l.plausible l.counts p l.initial.feasible l.initial.tally) l.initial.feasible l.initial.tally l.feasible l.tally l.added l.j

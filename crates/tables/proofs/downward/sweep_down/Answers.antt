@@ -1,51 +1,21 @@
 -- A sweep of the downward pass. Assumes nothing.
 use mathlib.Core.Path.{◌≡◌, ◌∙◌}
-use Prim.Native.Nat.{◌<◌}
-use Rattle.book.specs.Format.{prods}
-use Rattle.bookcheck.proofs.Accepted.{told_prods, place_read}
-use Rattle.tables.specs.Downward.{DownMarks, DownSwept}
-use Rattle.tables.proofs.Rounds.{round_less, sweep_begun, sweep_marks, sweep_next, sweep_done}
-use Rattle.tables.proofs.DownwardSweep.{DownTurn, down_lasts, down_serves}
 use native.Mathlib.Omega.{arith}
+use Rattle.book.specs.Format.{prods}
+use Rattle.bookcheck.proofs.Accepted.{told_prods}
+use Rattle.tables.specs.Downward.{DownMarks, DownSwept}
+use Rattle.tables.proofs.Rounds.{sweep_next, sweep_done}
+use Rattle.tables.proofs.DownwardSweep.{DownTurn, down_lasts, down_serves}
 use Rattle.tables.proofs.downward.sweep_down.Goals as goal
-
-pub loop-p-init : goal.loop-p-init
-loop-p-init c = sweep_begun (DownTurn c.args.book.now c.args.plausible.now c.args.counts.now c.args.feasible.now c.args.tally.now) (DownMarks c.args.book.now c.args.plausible.now c.args.counts.now) c.productions-n.result c.args.marks.now c.requires.4 c.requires.5 c.requires.2
-
-pub offset_bounds-places-p : goal.offset_bounds-places-p
-offset_bounds-places-p c =
-    let a = c.requires.0 in
-    let n : c.productions-n.result ≡ prods c.args.book.now = c.productions-n.ensures ∙ told_prods a in
-    omega (arith, a.few_prods)
-
-pub bounds-places-p : goal.bounds-places-p
-bounds-places-p c =
-    let a = c.requires.0 in
-    let n : c.productions-n.result ≡ prods c.args.book.now = c.productions-n.ensures ∙ told_prods a in
-    omega (arith, a.few_prods, c.requires.1.long)
-
-pub attend_down-requires : goal.attend_down-requires
-attend_down-requires c =
-    let a = c.requires.0 in
-    let n : c.productions-n.result ≡ prods c.args.book.now = c.productions-n.ensures ∙ told_prods a in
-    let l : c.loop-p.p < prods c.args.book.now = omega arith in
-    let h = c.loop-p.invariant in
-    (a, l, place_read a c.requires.1 c.loop-p.p l, h.long, c.requires.3, h.round.turned.fine, sweep_marks _ _ _ _ h (omega arith))
-
-pub beyond-p-requires : goal.beyond-p-requires
-beyond-p-requires c = omega arith
-
-pub loop-p-smaller : goal.loop-p-smaller
-loop-p-smaller c = round_less c.joined-turn.result (omega arith) c.beyond-p.ensures
 
 pub loop-p-preserved : goal.loop-p-preserved
 loop-p-preserved c =
     let a = c.requires.0 in
     let h = c.loop-p.invariant in
-    sweep_next (DownTurn c.args.book.now c.args.plausible.now c.args.counts.now c.args.feasible.now c.args.tally.now) (DownMarks c.args.book.now c.args.plausible.now c.args.counts.now) c.productions-n.result _ h _ c.attend_down.new.marks (omega arith) (down_lasts a c.args.plausible.now c.args.counts.now c.args.feasible.now c.args.tally.now) c.attend_down.ensures (down_serves a c.args.plausible.now c.args.counts.now h.round.turned.kept) c.attend_down.auto.marks c.joined-turn.ensures c.beyond-p.ensures
+    sweep_next (DownTurn c.args.book.now c.args.plausible.now c.args.counts.now c.args.feasible.now c.args.tally.now) (DownMarks c.args.book.now c.args.plausible.now c.args.counts.now) _ h _ c.attend_down.new.marks c.in_ok-added.field-0 (down_lasts a c.args.plausible.now c.args.counts.now c.args.feasible.now c.args.tally.now) (rw c.in_ok-added.was at c.attend_down.ensures) (down_serves a c.args.plausible.now c.args.counts.now h.round.kept) c.attend_down.auto.marks
 
 pub returns : goal.returns
 returns c =
     let a = c.requires.0 in
     let n : c.productions-n.result ≡ prods c.args.book.now = c.productions-n.ensures ∙ told_prods a in
-    sweep_done _ _ _ _ c.loop-p.invariant (DownSwept c.args.book.now c.args.plausible.now c.args.counts.now c.args.feasible.now c.args.tally.now _ _) (λ d p l. d p (omega arith) l)
+    sweep_done _ _ _ c.loop-p.invariant (DownSwept c.args.book.now c.args.plausible.now c.args.counts.now c.args.feasible.now c.args.tally.now _ _) (λ d p l. d p (omega arith) l)

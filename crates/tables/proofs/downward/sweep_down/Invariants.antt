@@ -1,5 +1,4 @@
 -- A sweep of the downward pass. Assumes nothing.
-use Prim.Native.Nat.{◌-◌}
 use Rattle.chains.specs.Feasible.{Feasible}
 use Rattle.book.specs.Format.{kinds, grammar}
 use Rattle.tables.specs.Downward.{DownMarks}
@@ -8,7 +7,4 @@ use Rattle.tables.proofs.DownwardSweep.{DownTurn}
 use Rattle.tables.proofs.downward.sweep_down.Given as goal
 
 abbrev pub invariant-loop-p : goal.invariant-loop-p
-invariant-loop-p l = OnSweep (kinds l.book) (Feasible (grammar l.book)) (DownTurn l.book l.plausible l.counts l.initial.feasible l.initial.tally) (DownMarks l.book l.plausible l.counts) l.n l.initial.feasible l.initial.tally l.marks l.feasible l.tally l.turn l.p
-
-abbrev pub decreases-loop-p : goal.decreases-loop-p
-decreases-loop-p l = l.n - l.p
+invariant-loop-p l = OnSweep (kinds l.book) (Feasible (grammar l.book)) (DownTurn l.book l.plausible l.counts l.initial.feasible l.initial.tally) (DownMarks l.book l.plausible l.counts) l.initial.feasible l.initial.tally l.marks l.feasible l.tally l.added l.p

@@ -2,9 +2,9 @@
 use mathlib.Core.Path.{◌≡◌, ◌∙◌}
 use Prim.Native.Nat.{◌≤◌, ◌<◌, ◌-◌}
 use native.Mathlib.Omega.{arith}
+use Rattle.std.proofs.lemmas.Result.{err_from_is_err_and}
 use Rattle.tables.specs.Visit.{size_of}
-use Rattle.tables.proofs.Rounds.{round_less}
-use Rattle.tables.proofs.Gathering.{one_less, enter_asks, reply_none, reply_known, loop_begun, loop_request, loop_next, loop_end, loop_long, loop_long_c, loop_long_seen}
+use Rattle.tables.proofs.Gathering.{one_less, enter_asks, reply_none, reply_known, loop_begun, loop_request, loop_next, loop_full, loop_end, loop_long, loop_long_c, loop_long_seen}
 use Rattle.tables.proofs.gather.+gather.Goals as goal
 
 pub enter-requires : goal.enter-requires
@@ -13,7 +13,7 @@ enter-requires t c = enter_asks c.requires
 pub returns-then-j-eq0 : goal.returns-then-j-eq0
 returns-then-j-eq0 t c =
     let e : c.args.j ≡ 0 = omega (arith, c.if-j-eq0.true) in
-    rw e (reply_none _ _ (rw e at c.requires) c.enter.ensures)
+    rw e (reply_none _ _ c.enter.result (rw e at c.requires) c.enter.ensures)
 
 pub known-requires : goal.known-requires
 known-requires t c =
@@ -34,7 +34,7 @@ codes-n-requires t c = omega (arith, c.requires.ready.few)
 pub loop-i-init : goal.loop-i-init
 loop-i-init t c =
     let e = one_less c.args.j c.if-j-eq0.false in
-    loop_begun _ _ _ _ _ (rw e at c.requires)
+    loop_begun _ _ _ _ (rw e at c.requires)
 
 pub overflow_mul-k : goal.overflow_mul-k
 overflow_mul-k t c = omega arith
@@ -69,27 +69,12 @@ choose-t-requires t c =
 pub gather-requires : goal.gather-requires
 gather-requires t c =
     let e = one_less c.args.j c.if-j-eq0.false in
-    (omega arith, loop_request _ _ _ _ (rw e at c.requires) c.loop-i.invariant c.choose-t.ensures (omega arith))
-
-pub beyond-i-requires : goal.beyond-i-requires
-beyond-i-requires t c = omega arith
-
-pub loop-i-smaller : goal.loop-i-smaller
-loop-i-smaller t c = round_less c.joined-turn.result (omega arith) c.beyond-i.ensures
-
-pub loop-i-preserved : goal.loop-i-preserved
-loop-i-preserved t c =
-    let e = one_less c.args.j c.if-j-eq0.false in
-    let q = rw e at c.requires in
-    let h = c.loop-i.invariant in
-    let w = c.choose-t.ensures in
-    let b : c.loop-i.i < size_of c.args.v (c.args.j - 1) = omega arith in
-    loop_next _ _ _ _ q h w b c.gather.ensures (omega arith) c.gather.auto.seen c.joined-turn.ensures c.beyond-i.ensures
+    (omega arith, loop_request _ _ _ _ (rw e at c.requires) c.loop-i.invariant c.choose-t.ensures)
 
 pub remember-requires : goal.remember-requires
 remember-requires t c =
     let p = c.requires in
-    (omega (arith, p.ready.few), c.loop-i.invariant.long, p.standing.state.long)
+    (omega (arith, p.ready.few), c.loop-i.invariant.seen.long, p.standing.state.long)
 
 pub shape_of-seen : goal.shape_of-seen
 shape_of-seen t c =
@@ -115,3 +100,18 @@ returns t c =
     let q = rw e at c.requires in
     let b : size_of c.args.v (c.args.j - 1) ≤ c.loop-i.i = omega arith in
     rw e (loop_end _ _ _ _ q c.loop-i.invariant b (rw e at c.remember.ensures))
+
+pub returns-in_err-added : goal.returns-in_err-added
+returns-in_err-added t c =
+    let e = one_less c.args.j c.if-j-eq0.false in
+    let q = rw e at c.requires in
+    let b : c.loop-i.i < size_of c.args.v (c.args.j - 1) = omega arith in
+    let p = err_from_is_err_and c.from_residual.result c.from_residual.ensures.1 in
+    rw (p.1, e) (loop_full _ _ _ _ q c.loop-i.invariant c.choose-t.ensures b _ p.0 (rw c.in_err-added.was at c.gather.ensures))
+
+pub loop-i-preserved : goal.loop-i-preserved
+loop-i-preserved t c =
+    let e = one_less c.args.j c.if-j-eq0.false in
+    let q = rw e at c.requires in
+    let b : c.loop-i.i < size_of c.args.v (c.args.j - 1) = omega arith in
+    loop_next _ _ _ _ q c.loop-i.invariant c.choose-t.ensures b c.in_ok-added.field-0 (rw c.in_ok-added.was at c.gather.ensures)

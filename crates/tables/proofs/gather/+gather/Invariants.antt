@@ -7,7 +7,4 @@ abbrev pub decreases-gather : goal.decreases-gather
 decreases-gather l = l.j
 
 abbrev pub invariant-loop-i : goal.invariant-loop-i
-invariant-loop-i l = Looping l.v l.lists (l.j - 1) l.s l.n l.initial.sets l.initial.counts l.seen l.sets l.counts l.turn l.i
-
-abbrev pub decreases-loop-i : goal.decreases-loop-i
-decreases-loop-i l = l.n - l.i
+invariant-loop-i l = Looping l.v l.lists (l.j - 1) l.s l.initial.sets l.initial.counts l.seen l.sets l.counts l.added l.i

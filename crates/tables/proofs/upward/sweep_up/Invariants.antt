@@ -1,5 +1,4 @@
 -- A sweep of the upward pass. Assumes nothing.
-use Prim.Native.Nat.{◌-◌}
 use Rattle.chains.specs.Plausible.{Plausible}
 use Rattle.book.specs.Format.{kinds, grammar}
 use Rattle.tables.specs.Upward.{UpMarks}
@@ -8,7 +7,4 @@ use Rattle.tables.proofs.UpwardSweep.{UpTurn}
 use Rattle.tables.proofs.upward.sweep_up.Given as goal
 
 abbrev pub invariant-loop-p : goal.invariant-loop-p
-invariant-loop-p l = OnSweep (kinds l.book) (Plausible (grammar l.book)) (UpTurn l.book l.initial.sets l.initial.counts) (UpMarks l.book) l.n l.initial.sets l.initial.counts l.marks l.sets l.counts l.turn l.p
-
-abbrev pub decreases-loop-p : goal.decreases-loop-p
-decreases-loop-p l = l.n - l.p
+invariant-loop-p l = OnSweep (kinds l.book) (Plausible (grammar l.book)) (UpTurn l.book l.initial.sets l.initial.counts) (UpMarks l.book) l.initial.sets l.initial.counts l.marks l.sets l.counts l.added l.p
