@@ -1,13 +1,10 @@
 -- From what is found to what is due by the admission's table.
 use mathlib.Core.Path.{refl, subst}
 use mathlib.Core.Logic.{◌⊎◌, inl, inr}
-use mathlib.Core.List.{List, [], ◌∷◌}
+use mathlib.Core.List.{List}
 use Prim.Native.Nat.{ℕ, ◌<◌}
 use native.Mathlib.Omega.{arith}
-use lib.ListN.{length}
-use Rattle.lists.specs.Refusals.{accepted, refused, Sooner, First}
-use Rattle.book.specs.Format.{grammar}
-use Rattle.sheet.specs.Reading.{all_settings}
+use Rattle.lists.specs.Refusals.{refused, Sooner, First}
 use Rattle.sheet.specs.Refusals as sheet
 use Rattle.sheet.specs.Trees.{Sound}
 use Rattle.sheet.proofs.Refusals as sheet_rows
@@ -49,20 +46,12 @@ module _ {b l : List ℕ} {m : Lengths} where
       before k q s (counts e f x) = omega arith
       before k q s (rooms e f x) = omega arith
 
-  -- where no row of the sheet applies and the count slices are long enough: 24, or nothing
-  module _ (none : (n p : ℕ) → sheet.Applies b l n p → ⊥) (long : ShortCounts b m.plausible_counts m.feasible_counts → ⊥) where
-    pub due_room : ShortRoom b l m.nodes m.groups → AdmissionDue b l m (refused 24 0)
-    due_room h = ((24, 0), refl, refl, (short_room h, λ j s x. before j.0 j.1 (before_room j.0 j.1 s) (row x)))
-      where
-        before : (k q : ℕ) → k < 24 → Row b l m k q → ⊥
-        before k q s (sheets x) = none k q x
-        before k q s (counts e f x) = long x
-        before k q s (rooms e f x) = omega arith
-
-    pub due_nothing : (ShortRoom b l m.nodes m.groups → ⊥) → AdmissionDue b l m (accepted (length l ∷ all_settings (grammar b) l ∷ []))
-    due_nothing wide = (refl, λ j x. go j.0 j.1 (row x))
-      where
-        go : (k q : ℕ) → Row b l m k q → ⊥
-        go k q (sheets x) = none k q x
-        go k q (counts e f x) = long x
-        go k q (rooms e f x) = wide x
+  -- 24, where no row of the sheet applies and the count slices are long enough
+  pub due_room : ((n p : ℕ) → sheet.Applies b l n p → ⊥) → (ShortCounts b m.plausible_counts m.feasible_counts → ⊥) → ShortRoom b l m.nodes m.groups
+      → AdmissionDue b l m (refused 24 0)
+  due_room none long h = ((24, 0), refl, refl, (short_room h, λ j s x. before j.0 j.1 (before_room j.0 j.1 s) (row x)))
+    where
+      before : (k q : ℕ) → k < 24 → Row b l m k q → ⊥
+      before k q s (sheets x) = none k q x
+      before k q s (counts e f x) = long x
+      before k q s (rooms e f x) = omega arith

@@ -1,11 +1,11 @@
 -- Laws of the walk: what is found at one position, and what the reading of a subtree comes to.
 use mathlib.Core.Path.{◌≡◌, refl, sym, ap, subst, ◌∙◌}
-use mathlib.Core.List.{List, [], ◌∷◌, ◌++◌}
+use mathlib.Core.List.{List, ◌∷◌, ◌++◌}
 use Prim.Native.Nat.{ℕ, suc, ◌+◌, ◌-◌, ◌≤◌, ◌<◌}
 use native.Mathlib.Omega.{arith}
 use native.Mathlib.Numerals.{add-one}
 use lib.ListN.{length, get_or, drop}
-use lib.Seq.{drop-cons, drop-length}
+use lib.Seq.{drop-cons}
 use Rattle.std.proofs.Common.{Ok, Err}
 use Rattle.chains.specs.Limits.{max_settings, max_prods, max_levels}
 use Rattle.refusals.specs.Table.{number_of}
@@ -124,13 +124,3 @@ module _ {b : List ℕ} (sound : Sound b) where
 
       pub children_stop : {r : Refused} → Walked b l c.nodes x (levels - 1) (Err r) → Walked b l i k levels (Err r)
       children_stop w = record { case = λ v ds y r. w.case (suc v) (Later v ds) (omega (arith, h.fit.levels_left)) (child_due m e v ds y r) }
-
-  pub children_end : {l : List ℕ} {i k levels at kids : ℕ} {c : Counts} → Children b l i k levels at kids c kids → Walked b l i k levels (Ok c)
-  children_end {l} {i} {c = c} h =
-      let ks = (grammar b).kids (get_or l i 0) in
-      let e : drop (length ks) ks ≡ [] = drop-length ks in
-      record { case = (h.standing, λ v ds y r. subst (λ (js : List ℕ). Read (grammar b) l c.nodes (due (suc v) js ++ ds)) (ap (λ n. drop n ks) h.all ∙ drop-length ks) (h.onward v ds y r)) }
-
--- a look that refuses stops the reading
-pub look_stops : {b l : List ℕ} {i k levels : ℕ} {r : Refused} → Looked b l i k levels (Err r) → Walked b l i k levels (Err r)
-look_stops f = record { case = f.case }
