@@ -1,10 +1,10 @@
 -- A turn of a visit, on its states: where all is there that later turns tie and that is looked at, it is there afterwards.
-use mathlib.Core.Path.{◌≡◌, refl, sym, ap, ◌∙◌}
+use mathlib.Core.Path.{◌≡◌, refl, sym}
 use mathlib.Core.Bool.{Bool, true, false}
 use mathlib.Core.List.{List}
 use Prim.Native.Nat.{ℕ, suc, ◌≤◌}
 use native.Mathlib.Omega.{arith}
-use borrow.Author.Tests.{eqb-false}
+use borrow.Author.Tests.{eqb-false, eq-eqb, ne_eqb}
 use lib.Dec.{eqb}
 use Rattle.lists.specs.Pick.{pick}
 use Rattle.chains.specs.Limits.{max_settings, max_kids}
@@ -51,13 +51,14 @@ module _ {v : Visit} {j : ℕ} {s : List ℕ} (r : Ready v (suc j)) (h : Standin
       go true = tied_state
       go false = forget_state tied_state (slot_of v j) slot_low
 
-  -- the state is worked out in three steps
-  pub step_released : {u₂ u₃ : List ℕ} → u₂ ≡ tied v j c s → u₃ ≡ released (slot_of v j) v.target u₂ → u₃ ≡ released (slot_of v j) v.target (tied v j c s)
-  step_released e f = f ∙ ap (λ (u : List ℕ). released (slot_of v j) v.target u) e
-
-  pub step_chosen : {u₃ u₄ : List ℕ} → u₃ ≡ released (slot_of v j) v.target (tied v j c s) → u₄ ≡ tidied u₃ → u₄ ≡ chosen v j c s
+  -- the slot is dropped, or it is the one looked at
+  pub chosen_dropped : {u₁ u₂ u₃ : List ℕ} → u₁ ≡ tied v j c s → (slot_of v j ≡ v.target → ⊥) → u₂ ≡ dropped (slot_of v j) u₁ → u₃ ≡ tidied u₂ → u₃ ≡ chosen v j c s
   unfolding chosen
-  step_chosen e f = f ∙ ap tidied e
+  chosen_dropped e n f g = rw (ne_eqb (slot_of v j) v.target n, g, f, e)
+
+  pub chosen_kept : {u₁ u₂ : List ℕ} → u₁ ≡ tied v j c s → slot_of v j ≡ v.target → u₂ ≡ tidied u₁ → u₂ ≡ chosen v j c s
+  unfolding chosen
+  chosen_kept e p g = rw (eq-eqb (slot_of v j) v.target p, g, e)
 
   -- THEOREM: what the later turns tie, and what is looked at, is there after the turn
   pub chosen_standing : Standing v j (chosen v j c s)

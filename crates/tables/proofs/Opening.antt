@@ -3,7 +3,7 @@ use mathlib.Core.Path.{◌≡◌, ap, ◌∙◌}
 use mathlib.Core.List.{List}
 use Prim.Native.Nat.{ℕ, ◌+◌, ◌*◌, ◌≤◌, ◌<◌}
 use native.Mathlib.Omega.{arith}
-use lib.ListN.{length, get_or, set, length-set}
+use lib.ListN.{length, get_or, length-set}
 use lib.Seq.{get_or-set_same, get_or-set_other}
 use Rattle.lists.proofs.Order.{by_order}
 use Rattle.lists.proofs.Parts.{get_d_part, place_long, get_d_before, get_d_this}
@@ -11,19 +11,10 @@ use Rattle.chains.specs.Limits.{max_members}
 use Rattle.book.specs.Reading.{kind_in}
 use Rattle.members.specs.Sets.{members, Placed}
 use Rattle.tables.specs.State.{width_in}
-use Rattle.tables.specs.Visit.{max_turns, size_of, Opened, TurnGiven, Sized, Opening}
+use Rattle.tables.specs.Visit.{max_turns, turn_of, size_of, Opened, TurnGiven, Sized, Opening}
+use Rattle.tables.specs.declared.gather.Turn.{Turn}
 use Rattle.tables.specs.declared.gather.Visit.{Visit}
 use Rattle.members.proofs.Ranked.{members_long}
-
--- one place of a list set
-set_here : (l l' : List ℕ) (j x : ℕ) → l' ≡ set l j x → j < length l → get_or l' j 0 ≡ x
-set_here l l' j x e h = ap (λ (u : List ℕ). get_or u j 0) e ∙ get_or-set_same l j x 0 h
-
-set_there : (l l' : List ℕ) (j x i : ℕ) → l' ≡ set l j x → (i ≡ j → ⊥) → get_or l' i 0 ≡ get_or l i 0
-set_there l l' j x i e n = ap (λ (u : List ℕ). get_or u i 0) e ∙ get_or-set_other l j i x 0 n
-
-set_long : (l l' : List ℕ) (j x : ℕ) → l' ≡ set l j x → length l' ≡ length l
-set_long l l' j x e = ap length e ∙ length-set l j x
 
 module _ {b : List ℕ} {at : ℕ} {s c : List ℕ} {v v' : Visit} {j slot : ℕ} {l l' : List ℕ}
     (z : Sized v l) (few : j < max_turns) (p : Placed s c (kind_in b at slot)) (o : Opened b at s c v j slot l v' l') where
@@ -32,20 +23,21 @@ module _ {b : List ℕ} {at : ℕ} {s c : List ℕ} {v v' : Visit} {j slot : ℕ
 
   pub opened_sized : Sized v' l'
   opened_sized = record {
-    slots = set_long v.slots v'.slots j slot o.slots_now ∙ z.slots;
-    widths = set_long v.widths v'.widths j (width_in b at slot) o.widths_now ∙ z.widths;
-    sizes = set_long v.sizes v'.sizes j (get_or c (kind_in b at slot) 0) o.sizes_now ∙ z.sizes;
+    turns = ap length o.turns_now ∙ length-set v.turns j _ ∙ z.turns;
     lists = ap length o.lists_now ∙ place_long l (j * max_members) (members s c (kind_in b at slot)) room ∙ z.lists;
   }
 
+  turn_now : turn_of v' j ≡ record { slot = slot; width = width_in b at slot; size = get_or c (kind_in b at slot) 0 }
+  turn_now = rw o.turns_now (get_or-set_same v.turns j _ _ (omega (arith, z.turns)))
+
   size_now : size_of v' j ≡ get_or c (kind_in b at slot) 0
-  size_now = set_here v.sizes v'.sizes j (get_or c (kind_in b at slot) 0) o.sizes_now (omega (arith, z.sizes))
+  size_now = ap (λ (t : Turn). t.size) turn_now
 
   -- the turn itself
   pub opened_this : TurnGiven b at s c v' l' j slot
   opened_this = record {
-    slot_is = set_here v.slots v'.slots j slot o.slots_now (omega (arith, z.slots));
-    width_is = set_here v.widths v'.widths j (width_in b at slot) o.widths_now (omega (arith, z.widths));
+    slot_is = ap (λ (t : Turn). t.slot) turn_now;
+    width_is = ap (λ (t : Turn). t.width) turn_now;
     size_is = size_now;
     few = omega (arith, size_now, p.few);
     codes_are = λ r h.
@@ -59,10 +51,11 @@ module _ {b : List ℕ} {at : ℕ} {s c : List ℕ} {v v' : Visit} {j slot : ℕ
   pub opened_before : {s₀ c₀ : List ℕ} {i t : ℕ} → i < j → TurnGiven b at s₀ c₀ v l i t → TurnGiven b at s₀ c₀ v' l' i t
   opened_before {i = i} h u =
       let n : i ≡ j → ⊥ = λ e. omega arith in
-      let q : size_of v' i ≡ size_of v i = set_there v.sizes v'.sizes j (get_or c (kind_in b at slot) 0) i o.sizes_now n in
+      let t : turn_of v' i ≡ turn_of v i = rw o.turns_now (get_or-set_other v.turns j i _ _ n) in
+      let q : size_of v' i ≡ size_of v i = ap (λ (t : Turn). t.size) t in
       record {
-        slot_is = set_there v.slots v'.slots j slot i o.slots_now n ∙ u.slot_is;
-        width_is = set_there v.widths v'.widths j (width_in b at slot) i o.widths_now n ∙ u.width_is;
+        slot_is = ap (λ (t : Turn). t.slot) t ∙ u.slot_is;
+        width_is = ap (λ (t : Turn). t.width) t ∙ u.width_is;
         size_is = q ∙ u.size_is;
         few = omega (arith, u.few);
         codes_are = λ r m.

@@ -20,8 +20,9 @@ use Rattle.bookcheck.proofs.Decided.{exists_decided}
 use Rattle.bookcheck.specs.Accepted.{Accepted}
 use Rattle.bookcheck.proofs.Accepted.{settings_read, arity_read, kind_in_read, pairs_read, inside, to_low, from_low}
 use Rattle.ranks.specs.Entries.{labels, none}
-use Rattle.tables.specs.State.{Present, Low, State, width_in, own, apart, based, Readable}
+use Rattle.tables.specs.State.{Present, State, width_in, own, apart, based, Readable}
 use Rattle.tables.proofs.State.{joins_means}
+use Rattle.tables.proofs.StateLoops.{apart_low}
 
 -- what every pair's ends have
 ends_named : {X : Type 0} (P : X → Type 0) (ts : List (X × X)) → ((x y : X) → Named ts x y → P x × P y) → Ends P ts
@@ -97,13 +98,6 @@ module _ {b : List ℕ} (a : Accepted b) (p : ℕ) (l : p < prods b) where
   apart_own : (o : ℕ) → Present (apart b at) o → get_or (apart b at) o none ≡ o
   apart_own o h = has_own o ((apart_present o).0 h)
 
-  apart_state : State (apart b at)
-  apart_state = record { long = apart_long; low = λ o. by_being o (exists_decided G p (occ o)) }
-    where
-      by_being : (o : ℕ) → Dec (Exists G p (occ o)) → Low (get_or (apart b at) o none)
-      by_being o (yes e) = let (k, m) = exists_low (occ o) e in inl (omega (arith, has_own o e))
-      by_being o (no n) = inr (has_none o n)
-
   -- ---- the pairs
   tied_exist : (o q : Occ) → Tied G p o q → Exists G p o × Exists G p q
   tied_exist o q h = let e = a.lawful.named p o q l h in (e.0, e.1)
@@ -135,12 +129,12 @@ module _ {b : List ℕ} (a : Accepted b) (p : ℕ) (l : p < prods b) where
   -- THEOREM: the base is a state of the occurrences that exist
   pub base_state : State (based b at)
   unfolding based
-  base_state = (joins_means apart_state (numbers (G.ties p)) pairs_there).state
+  base_state = (joins_means (apart_low b at) (numbers (G.ties p)) pairs_there).state
 
   pub base_present : (o : ℕ) → Present (based b at) o ↔ Exists G p (occ o)
   unfolding based
   base_present o =
-      let t = (joins_means apart_state (numbers (G.ties p)) pairs_there).present o in
+      let t = (joins_means (apart_low b at) (numbers (G.ties p)) pairs_there).present o in
       let u = apart_present o in
       (λ h. u.0 (t.0 h), λ e. t.1 (u.1 e))
 

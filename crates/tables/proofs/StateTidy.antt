@@ -2,13 +2,13 @@
 use mathlib.Core.Path.{◌≡◌, refl, sym, ap, ◌∙◌}
 use mathlib.Core.Logic.{inl, inr, ◌↔◌}
 use mathlib.Core.Bool.{Bool, true, false}
-use mathlib.Core.List.{List, [], ◌∷◌, ◌++◌}
+use mathlib.Core.List.{List, [], ◌∷◌}
 use Prim.Native.Nat.{ℕ, suc, ◌+◌, ◌≤◌, ◌<◌}
 use native.Mathlib.Omega.{arith}
 use native.Mathlib.Decide.{dec_lt, ℕ_discrete}
 use borrow.Author.Tests.{eq-eqb, ne_eqb}
-use lib.Dec.{eqb, ltb}
-use lib.ListN.{length, get_or, length-append, get_or-eq_default}
+use lib.Dec.{eqb}
+use lib.ListN.{length, get_or, get_or-eq_default}
 use Rattle.lists.specs.Pick.{pick}
 use Rattle.chains.specs.Grammar.{Occ, Grammar, Exists}
 use Rattle.chains.specs.Grouping.{Proper}
@@ -19,15 +19,8 @@ use Rattle.bookcheck.proofs.Decided.{exists_decided}
 use Rattle.ranks.specs.Entries.{labels, none}
 use Rattle.tables.specs.Entries.{kept, Labelled}
 use Rattle.tables.specs.State.{Present, Same, Low, State, tidy_from, tidied}
+use Rattle.tables.proofs.StateNumbers.{add_long}
 use Rattle.tables.proofs.StateKept.{Stands, before, kept_at, Fit, end, gap, both, fit, fit_before, fit_long, fit_gap, labels_once}
-
-add_long : (x : ℕ) (s : List ℕ) → length (add x s) ≤ suc (length s)
-unfolding add
-add_long x s = go (ltb (index x s) (length s))
-  where
-    go : (b : Bool) → length (pick b s (s ++ x ∷ [])) ≤ suc (length s)
-    go true = omega arith
-    go false = omega (arith, length-append s (x ∷ []))
 
 -- the gaps stay, as long as there are numbers for the labels
 tidy_fits : (l seen : List ℕ) → length seen + length l < none → Fit (tidy_from seen l) l

@@ -1,34 +1,34 @@
 -- What stands among the states seen keeps having what was shown of it, as states are put there and as more comes to have it.
-use mathlib.Core.Path.{◌≡◌, refl, sym, ap, ap₂, ◌∙◌, subst}
+use mathlib.Core.Path.{◌≡◌, refl, sym, ap, ◌∙◌, subst}
 use mathlib.Core.Logic.{◌⊎◌, inl, inr, ⊎_elim}
 use mathlib.Core.Bool.{Bool, true, false}
-use mathlib.Core.List.{List}
-use Prim.Native.Nat.{ℕ, ◌+◌, ◌*◌, ◌%◌, ◌≤◌, ◌<◌, min}
+use mathlib.Core.List.{List, []}
+use Prim.Native.Nat.{ℕ, ◌+◌, ◌%◌, ◌<◌, min}
 use native.Mathlib.Omega.{arith}
 use native.Mathlib.Decide.{ℕ_discrete}
 use borrow.Author.Tests.{ltb-true, ltb-false}
-use lib.Dec.{ltb}
-use lib.ListN.{length, get_or, set, replicate, length-set, length-replicate, get_or-replicate}
-use lib.Seq.{get_or-set_same, get_or-set_other, ext_get_or}
+use lib.Dec.{ltb, eqb}
+use lib.ListN.{length, get_or, set, take, replicate, length-take, length-set, length-replicate, get_or-replicate}
+use lib.Pointwise.{pointwise}
+use lib.Seq.{get_or-set_same, get_or-set_other}
+use Rattle.std.specs.List.{IsAnyAnswer}
+use Rattle.std.proofs.lemmas.Bool.Decides.{Decides-eqb}
+use Rattle.std.proofs.lemmas.List.{get_or-take, get_or_default}
+use Rattle.std.proofs.lemmas.List.Elements.{contains_decides}
+use Rattle.std.proofs.lemmas.Slice.Eq.{slice_eq-Decides}
 use Rattle.lists.specs.Pick.{pick}
-use Rattle.lists.specs.Part.{part, place}
 use Rattle.lists.proofs.Order.{by_order}
-use Rattle.lists.proofs.Parts.{length_part, get_d_part, place_long, place_this, place_before, place_after, get_d_before, get_d_after}
-use Rattle.ranks.specs.Entries.{labels}
-use Rattle.tables.specs.Seen.{places, levels, level_bytes, seen_bytes, counter, filled, last_counter, advanced, state_at, stored, Found, remembered, Stored}
+use Rattle.tables.specs.Seen.{places, levels, last_counter, advanced, Found, remembered, level, Stored}
+use Rattle.tables.specs.declared.seen.Level.{Level}
 
--- a part that a place set lies outside of
-part_set : (l : List ℕ) (a n i v : ℕ) → a + n ≤ length l → (i < a) ⊎ (a + n ≤ i) → part a n (set l i v) ≡ part a n l
-part_set l a n i v fits out = ext_get_or 0 (part a n (set l i v)) (part a n l) (long_set ∙ sym (length_part a n l fits)) go
-  where
-    long_set : length (part a n (set l i v)) ≡ n
-    long_set = length_part a n (set l i v) (rw (length-set l i v) fits)
-
-    go : (k : ℕ) → k < length (part a n (set l i v)) → get_or (part a n (set l i v)) k 0 ≡ get_or (part a n l) k 0
-    go k h =
-        let b : k < n = omega (arith, long_set) in
-        let d : a + k ≡ i → ⊥ = λ e. ⊎_elim (λ z. omega arith) (λ z. omega arith) out in
-        get_d_part a n (set l i v) k 0 b ∙ get_or-set_other l i (a + k) v 0 d ∙ sym (get_d_part a n l k 0 b)
+-- ---- one level
+-- a state found among the first n
+pub known_found : (l : List (List ℕ)) (n : ℕ) (s : List ℕ) (r : Bool) → IsAnyAnswer (λ y t. pointwise eqb y s ≡ t) (take n l) r → r ≡ true
+    → (i : ℕ) × (i < n) × (get_or l i [] ≡ s)
+known_found l n s r a e =
+    let (i, b, h) = (contains_decides (pointwise eqb) (λ x y. slice_eq-Decides Decides-eqb x y (pointwise eqb x y) refl) (take n l) s r a).0 e in
+    let k : i < n = omega (arith, length-take n l) in
+    (i, k, sym (get_or-take n l i [] k) ∙ h [])
 
 -- the places filled after one state more: the one just filled, and those that were
 filled_next : (n i : ℕ) → i < min (advanced n) places → (i ≡ n % places) ⊎ (i < min n places)
@@ -43,87 +43,39 @@ filled_next n i h = go (ltb n last_counter) (ltb n places) refl refl h
     go true false x y k = let l = ltb-false n places y in inr (omega arith)
     go false false x y k = let l = ltb-false n places y in inr (omega arith)
 
+-- THEOREM: what stands there once s was put there is s, or stood there
+pub remembered_only : (v : Level) (s : List ℕ) → length v.states ≡ places → (t : List ℕ) → Found (remembered v s) t → (t ≡ s) ⊎ Found v t
+remembered_only v s long t (i, b, e) = go (ℕ_discrete i (v.counter % places))
+  where
+    go : Dec (i ≡ v.counter % places) → (t ≡ s) ⊎ Found v t
+    go (yes p) = inl (sym e ∙ ap (λ (k : ℕ). get_or (set v.states (v.counter % places) s) k []) p ∙ get_or-set_same v.states (v.counter % places) s [] (omega arith))
+    go (no n) = ⊎_elim (λ p. absurd (n p)) (λ k. inr (i, k, sym (get_or-set_other v.states (v.counter % places) i s [] n) ∙ e)) (filled_next v.counter i b)
+
+-- ---- all levels
 -- what stands there has W, of whatever state it is
-pub found_has : {W : ℕ → List ℕ → Type 0} {l : List ℕ} {j : ℕ} {s : List ℕ} → Stored W l → j < levels → Found l j s → W j s
-found_has {W = W} {j = j} h b (i, f, e) = subst (W j) e (h.each j i b f)
+pub found_has : {W : ℕ → List ℕ → Type 0} {l : List Level} {j : ℕ} {s : List ℕ} → Stored W l → j < levels → (v : Level) → Found (get_or l j v) s → W j s
+found_has {l = l} {j} {s} h b v f = h.each j s b (rw (get_or_default l j (record { counter = 0; states = [] }) v (omega (arith, h.long))) f)
 
 -- where all that has W has V
-pub stored_map : {W W' : ℕ → List ℕ → Type 0} {l : List ℕ} → ((j : ℕ) (s : List ℕ) → W j s → W' j s) → Stored W l → Stored W' l
-stored_map g h = record { long = h.long; each = λ j i b f. g j _ (h.each j i b f) }
+pub stored_map : {W W' : ℕ → List ℕ → Type 0} {l : List Level} → ((j : ℕ) (s : List ℕ) → W j s → W' j s) → Stored W l → Stored W' l
+stored_map g h = record { long = h.long; each = λ j s b f. g j s (h.each j s b f) }
 
 -- where no place is filled
-pub stored_none : (W : ℕ → List ℕ → Type 0) → Stored W (replicate seen_bytes 0)
-stored_none W = record {
-  long = length-replicate {A = ℕ} seen_bytes 0;
-  each = λ j i b f. let z : counter (replicate seen_bytes 0) j ≡ 0 = get_or-replicate {A = ℕ} seen_bytes (j * level_bytes) 0 0 (omega arith) in absurd (omega arith);
+pub stored_none : (W : ℕ → List ℕ → Type 0) (v : Level) → v.counter ≡ 0 → Stored W (replicate levels v)
+stored_none W v z = record {
+  long = length-replicate {A = Level} levels v;
+  each = λ j s b (i, f, e). let q = get_or-replicate {A = Level} levels j v (record { counter = 0; states = [] }) b in absurd (omega (arith, ap (λ (w : Level). w.counter) q));
 }
 
-module _ {W : ℕ → List ℕ → Type 0} {l : List ℕ} (h : Stored W l) (j : ℕ) (below : j < levels) (s : List ℕ) (long : length s ≡ labels) (has : W j s) where
-  here : ℕ
-  here = state_at j (counter l j % places)
-
-  fits : here + length s ≤ length l
-  unfolding here
-  fits = omega (arith, h.long, long)
-
-  after : List ℕ
-  after = place here s l
-
-  after_long : length after ≡ length l
-  unfolding after
-  after_long = place_long l here s fits
-
-  -- the counters: this level's has advanced, the others are as they were
-  this_counter : counter (remembered l j s) j ≡ advanced (counter l j)
-  unfolding here after
-  this_counter = get_or-set_same after (j * level_bytes) _ 0 (omega (arith, after_long, h.long))
-
-  other_counter : (k : ℕ) → k < levels → (k ≡ j → ⊥) → counter (remembered l j s) k ≡ counter l k
-  unfolding here after
-  other_counter k b d =
-      get_or-set_other after (j * level_bytes) (k * level_bytes) _ 0 (λ e. d (omega arith))
-      ∙ by_order _ k j (λ e. absurd (d e)) (λ e. get_d_before l here s fits (k * level_bytes) 0 (omega arith)) (λ e. get_d_after l here s fits (k * level_bytes) 0 (omega (arith, long)))
-
-  -- the counter's place is no state's
-  untouched : (k i : ℕ) → k < levels → i < places → stored (remembered l j s) k i ≡ stored after k i
-  unfolding here after
-  untouched k i b c =
-      part_set after (state_at k i) labels (j * level_bytes) _ (omega (arith, after_long, h.long))
-      (by_order _ k j (λ e. inl (omega arith)) (λ e. inr (omega arith)) (λ e. inl (omega arith)))
-
-  this_state : stored (remembered l j s) j (counter l j % places) ≡ s
-  unfolding here after
-  this_state = untouched j (counter l j % places) below (omega arith) ∙ ap (λ (n : ℕ). part here n after) (sym long) ∙ place_this l here s fits
-
-  other_state : (k i : ℕ) → k < levels → i < places → (k < j) ⊎ (j < k) ⊎ ((k ≡ j) × ((i ≡ counter l j % places) → ⊥)) → stored (remembered l j s) k i ≡ stored l k i
-  unfolding here after
-  other_state k i b c (inl e) = untouched k i b c ∙ place_before l here s fits (state_at k i) labels (omega arith)
-  other_state k i b c (inr (inl e)) = untouched k i b c ∙ place_after l here s fits (state_at k i) labels (omega (arith, long))
-  other_state k i b c (inr (inr (e, d))) = untouched k i b c
-      ∙ by_order _ i (counter l j % places) (λ z. absurd (d z)) (λ z. place_before l here s fits (state_at k i) labels (omega arith))
-      (λ z. place_after l here s fits (state_at k i) labels (omega (arith, long)))
-
-  here_has : (i : ℕ) → Dec (i ≡ counter l j % places) → i < filled (remembered l j s) j → W j (stored (remembered l j s) j i)
-  here_has i (yes e) f = subst (λ i. W j (stored (remembered l j s) j i)) (sym e) (subst (W j) (sym this_state) has)
-  here_has i (no d) f =
-      let b : i < filled l j = ⊎_elim (λ e. absurd (d e)) (λ b. b) (filled_next (counter l j) i (rw this_counter at f)) in
-      subst (W j) (sym (other_state j i below (omega arith) (inr (inr (refl, d))))) (h.each j i below b)
-
-  there_has : (k i : ℕ) → k < levels → (k ≡ j → ⊥) → i < filled (remembered l j s) k → W k (stored (remembered l j s) k i)
-  there_has k i b d f =
-      let c : i < filled l k = rw (other_counter k b d) at f in
-      subst (W k) (sym (other_state k i b (omega arith) (by_order _ k j (λ e. absurd (d e)) inl (λ e. inr (inl e))))) (h.each k i b c)
-
-  -- THEOREM: a state with W put among them
-  pub remember_stored : Stored W (remembered l j s)
-  unfolding here after
-  remember_stored = record { long = length-set after (j * level_bytes) _ ∙ after_long ∙ h.long; each = λ k i b f. go k i b f (ℕ_discrete k j) }
-    where
-      go : (k i : ℕ) → k < levels → i < filled (remembered l j s) k → Dec (k ≡ j) → W k (stored (remembered l j s) k i)
-      go k i b f (yes e) = rw e (here_has i (ℕ_discrete i (counter l j % places)) (rw e at f))
-      go k i b f (no d) = there_has k i b d f
-
--- ── how a state is put ──
-pub remember_put : (l s : List ℕ) (j : ℕ) {l' : List ℕ} {a : ℕ} → l' ≡ place (j * level_bytes + 1 + counter l j % places * labels) s l → a ≡ advanced (counter l j)
-    → set l' (j * level_bytes) a ≡ remembered l j s
-remember_put l s j f g = ap₂ (λ x y. set x (j * level_bytes) y) f g
+-- THEOREM: a state with W put among them
+pub remember_stored : {W : ℕ → List ℕ → Type 0} {l : List Level} → Stored W l → (j : ℕ) → j < levels → (s : List ℕ) → W j s → (u v : Level)
+    → ((t : List ℕ) → Found v t → (t ≡ s) ⊎ Found (get_or l j u) t) → Stored W (set l j v)
+remember_stored {W} {l} h j b s has u v only = record { long = length-set l j v ∙ h.long; each = λ k t c f. go k t c f (ℕ_discrete k j) }
+  where
+    go : (k : ℕ) (t : List ℕ) → k < levels → Found (level (set l j v) k) t → Dec (k ≡ j) → W k t
+    go k t c f (yes e) =
+        let q : level (set l j v) k ≡ v = ap (λ (i : ℕ). level (set l j v) i) e ∙ get_or-set_same l j v _ (omega (arith, h.long)) in
+        subst (λ i. W i t) (sym e) (⊎_elim (λ p. subst (W j) (sym p) has) (λ g. found_has h b u g) (only t (rw q at f)))
+    go k t c f (no n) =
+        let q : level (set l j v) k ≡ level l k = get_or-set_other l j k v _ n in
+        h.each k t c (rw q at f)

@@ -1,15 +1,15 @@
 -- A visit made: from the base of its production, with no state seen yet.
 use mathlib.Core.Path.{◌≡◌, refl, subst}
 use mathlib.Core.Logic.{inl}
-use mathlib.Core.Bool.{Bool, false}
 use mathlib.Core.List.{List}
 use Prim.Native.Nat.{ℕ, zero, suc}
 use native.Mathlib.Omega.{arith}
 use lib.ListN.{replicate}
-use Rattle.std.specs.Prelude.{Result, Ok}
+use Rattle.std.specs.Prelude.{Bool, false, Result, Ok}
 use Rattle.lists.proofs.Order.{by_order}
 use Rattle.tables.specs.State.{based}
-use Rattle.tables.specs.Seen.{seen_bytes}
+use Rattle.tables.specs.Seen.{levels}
+use Rattle.tables.specs.declared.seen.Level.{Level}
 use Rattle.tables.specs.Visit.{size_of, code_of, chosen, Yields, Gathers, Done, Request, Reply, Barren, Prepared}
 use Rattle.members.specs.declared.Full.{Full}
 use Rattle.tables.specs.declared.gather.Visit.{Visit}
@@ -33,8 +33,8 @@ module _ (v : Visit) (l : List ℕ) where
   }
 
   module _ (b : List ℕ) (at : ℕ) {n : ℕ} {s c u : List ℕ} (e : u ≡ based b at) where
-    pub visit_request : Prepared b at v n l s c → Request v l n u (replicate seen_bytes 0) s c
-    visit_request h = record { ready = h.ready; standing = rw e h.standing; lists = h.lists; order = h.order; seen = stored_none (Done v l s c) }
+    pub visit_request : (w : Level) → w.counter ≡ 0 → Prepared b at v n l s c → Request v l n u (replicate levels w) s c
+    visit_request w z h = record { ready = h.ready; standing = rw e h.standing; lists = h.lists; order = h.order; seen = stored_none (Done v l s c) w z }
 
-    pub visit_done : {kept s' c' : List ℕ} {r : Result Bool Full} → Reply v l n u s c kept s' c' r → Gathers v.kind (Yields v l n (based b at)) s c s' c' r
+    pub visit_done : {kept : List Level} {s' c' : List ℕ} {r : Result Bool Full} → Reply v l n u s c kept s' c' r → Gathers v.kind (Yields v l n (based b at)) s c s' c' r
     visit_done {s' = s'} {c'} {r} p = subst (λ u. Gathers v.kind (Yields v l n u) s c s' c' r) e p.turned

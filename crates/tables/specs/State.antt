@@ -1,6 +1,6 @@
 -- A state: a label for each occurrence number of a production, while its groups are worked out. Two occurrences stand in one group where their
 -- labels are equal; an occurrence that does not exist, or that was dropped, has none.
-use Rattle.std.specs.Prelude.{◌≡◌, ◌⊎◌, ◌↔◌, List, [], ◌∷◌, ℕ, ◌+◌, ◌*◌, ◌/◌, ◌%◌, ◌≤◌, ◌<◌, eqb, ltb, length, get_or, set}
+use Rattle.std.specs.Prelude.{◌≡◌, ◌⊎◌, ◌↔◌, List, [], ◌∷◌, ℕ, ◌+◌, ◌*◌, ◌/◌, ◌%◌, ◌≤◌, ◌<◌, eqb, ltb, length, get_or}
 use Rattle.lists.specs.Pick.{pick}
 use Rattle.chains.specs.Limits.{max_settings}
 use Rattle.chains.specs.Chain.{Eqv}
@@ -75,12 +75,12 @@ tidy_from seen (x ∷ l) = pick (eqb x none) (none ∷ tidy_from seen l) (labell
 abbrev pub tidied : List ℕ → List ℕ
 tidied s = tidy_from [] s
 
--- a table t of the numbers that labels have been given: what x has, or gets as the next one
-pub record Numbered (t : List ℕ) (x next : ℕ) (t' : List ℕ) (r : ℕ) : Type 0 where
-  pub answer : r ≡ pick (eqb (get_or t x 0) none) next (get_or t x 0)
-  pub table : t' ≡ set t x r
+-- the labels that have been given a number, in order, off the table t of the numbers and the next one
+abbrev pub numbered : List ℕ → ℕ → List ℕ
+numbered t n = labelling.labels_by (λ k. labelling.index k t) 0 n
 
--- the same, where x may be none and stays so
-pub record Renumbered (t : List ℕ) (x next : ℕ) (t' : List ℕ) (r : ℕ) : Type 0 where
-  pub missing : x ≡ none → (r ≡ none) × (t' ≡ t)
-  pub label : x < labels → Numbered t x next t' r
+-- each label that stands in the table has its place among them there, and the others have none
+pub record Numbering (t : List ℕ) (n : ℕ) : Type 0 where
+  pub long : length t ≡ labels
+  pub has : (x : ℕ) → x < labels → labelling.index x (numbered t n) < n → get_or t x 0 ≡ labelling.index x (numbered t n)
+  pub lacks : (x : ℕ) → x < labels → n ≤ labelling.index x (numbered t n) → get_or t x 0 ≡ none

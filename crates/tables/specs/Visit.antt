@@ -10,22 +10,27 @@ use Rattle.members.specs.Sets.{members, Has, member}
 use Rattle.tables.specs.Memory.{Fine, Turned}
 use Rattle.tables.specs.State.{State, Whole, Readable, width_in, based, tidied}
 use Rattle.tables.specs.Seen.{Stored}
+use Rattle.tables.specs.declared.seen.Level.{Level}
 use Rattle.members.specs.declared.Full.{Full}
+use Rattle.tables.specs.declared.gather.Turn.{Turn}
 use Rattle.tables.specs.declared.gather.Visit.{Visit}
 
 -- the slots that a production can have, and as many turns
 abbrev pub max_turns : ℕ
 max_turns = suc max_kids
 
--- the slot of turn j, its number of settings and its number of codes
+-- turn j: its slot, the slot's number of settings and the number of codes
+abbrev pub turn_of : Visit → ℕ → Turn
+turn_of v j = get_or v.turns j (record { slot = 0; width = 0; size = 0 })
+
 abbrev pub slot_of : Visit → ℕ → ℕ
-slot_of v j = get_or v.slots j 0
+slot_of v j = (turn_of v j).slot
 
 abbrev pub width_of : Visit → ℕ → ℕ
-width_of v j = get_or v.widths j 0
+width_of v j = (turn_of v j).width
 
 abbrev pub size_of : Visit → ℕ → ℕ
-size_of v j = get_or v.sizes j 0
+size_of v j = (turn_of v j).size
 
 -- the i-th code of turn j
 abbrev pub code_of : List ℕ → ℕ → ℕ → ℕ
@@ -86,7 +91,7 @@ abbrev pub Done : Visit → List ℕ → List ℕ → List ℕ → ℕ → List 
 Done v l s c j u = Gathered v.kind (Yields v l j u) s c
 
 -- what gathering from the state u asks
-pub record Request (v : Visit) (l : List ℕ) (j : ℕ) (u kept s c : List ℕ) : Type 0 where
+pub record Request (v : Visit) (l : List ℕ) (j : ℕ) (u : List ℕ) (kept : List Level) (s c : List ℕ) : Type 0 where
   pub ready : Ready v j
   pub standing : Standing v j u
   pub lists : length l ≡ max_turns * max_members
@@ -94,16 +99,14 @@ pub record Request (v : Visit) (l : List ℕ) (j : ℕ) (u kept s c : List ℕ) 
   pub seen : Stored (Done v l s c) kept
 
 -- and what it leaves
-pub record Reply (v : Visit) (l : List ℕ) (j : ℕ) (u s c kept' s' c' : List ℕ) (r : Result Bool Full) : Type 0 where
+pub record Reply (v : Visit) (l : List ℕ) (j : ℕ) (u s c : List ℕ) (kept' : List Level) (s' c' : List ℕ) (r : Result Bool Full) : Type 0 where
   pub turned : Gathers v.kind (Yields v l j u) s c s' c' r
   pub seen : OnOk r (Stored (Done v l s' c') kept')
 
 -- ── a visit made ready, off the production entry at the place at of the book b ──
 -- v with turn j given to a slot, and the codes of that slot's kind, off the sets s with the counts c, put into the lists l
 pub record Opened (b : List ℕ) (at : ℕ) (s c : List ℕ) (v : Visit) (j slot : ℕ) (l : List ℕ) (v' : Visit) (l' : List ℕ) : Type 0 where
-  pub slots_now : v'.slots ≡ set v.slots j slot
-  pub widths_now : v'.widths ≡ set v.widths j (width_in b at slot)
-  pub sizes_now : v'.sizes ≡ set v.sizes j (get_or c (kind_in b at slot) 0)
+  pub turns_now : v'.turns ≡ set v.turns j (record { slot = slot; width = width_in b at slot; size = get_or c (kind_in b at slot) 0 })
   pub rest : (v'.target ≡ v.target) × (v'.width ≡ v.width) × (v'.kind ≡ v.kind)
   pub lists_now : l' ≡ place (j * max_members) (members s c (kind_in b at slot)) l
 
@@ -117,9 +120,7 @@ pub record TurnGiven (b : List ℕ) (at : ℕ) (s c : List ℕ) (v : Visit) (l :
 
 -- there are places for all turns
 pub record Sized (v : Visit) (l : List ℕ) : Type 0 where
-  pub slots : length v.slots ≡ max_turns
-  pub widths : length v.widths ≡ max_turns
-  pub sizes : length v.sizes ≡ max_turns
+  pub turns : length v.turns ≡ max_turns
   pub lists : length l ≡ max_turns * max_members
 
 -- the results are seen on slot t, and turn i, for each i below j, has the slot σ i, with the codes of its kind off the sets S i with the counts C i

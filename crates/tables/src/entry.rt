@@ -6,7 +6,7 @@ ghost use Rattle.ranks.specs.Entries.{labels, entry_bytes};
 ghost use Rattle.tables.specs.State.{State, tidied};
 ghost use Rattle.tables.specs.Fill.{InPlace, Listed, RankOn, ChildRank, ChildRanks, UpByte, DownBytes, ChildrenListed, Rankable, Entry, entry_size, EntriesLaid};
 
-use super::labels::{LABELS, NONE, tidy, view};
+use super::labels::{LABELS, Labels, NONE};
 use super::sets::MAX_MEMBERS;
 use super::shape::Shape;
 use ranks::{ENTRY, Feasible, Plausible};
@@ -21,17 +21,17 @@ pub enum Table {
 const CHILDREN: usize = book::limits::MAX_CHILDREN as usize;
 
 // The place of the code that the state shows on a slot, among the members of the slot's kind: what both kinds of rank are.
-fn rank_on(v: Shape, slot: usize, s: &[u8; LABELS], sets: &[u32], counts: &[u8]) -> u8
+fn rank_on(v: Shape, slot: usize, s: &Labels, sets: &[u32], counts: &[u8]) -> u8
     requires { InPlace sets.now counts.now v s.now × (slot ≤ v.arity) × Listed sets.now counts.now v slot s.now }
     ensures { RankOn sets.now counts.now v slot s.now result }
 {
     let kind = v.kinds[slot] as usize;
-    let code = view(s, slot as u8, v.widths[slot]);
+    let code = s.view(slot as u8, v.widths[slot]);
     members::place_of(sets, kind * MAX_MEMBERS, counts[kind] as usize, code) as u8
 }
 
 // The plausible rank of what the state shows on slot 0.
-fn plausible_rank(v: Shape, s: &[u8; LABELS], plausible: &[u32], counts: &[u8]) -> Plausible
+fn plausible_rank(v: Shape, s: &Labels, plausible: &[u32], counts: &[u8]) -> Plausible
     requires { InPlace plausible.now counts.now v s.now × Listed plausible.now counts.now v 0 s.now }
     ensures { RankOn plausible.now counts.now v 0 s.now result.0 }
 {
@@ -39,7 +39,7 @@ fn plausible_rank(v: Shape, s: &[u8; LABELS], plausible: &[u32], counts: &[u8]) 
 }
 
 // The feasible rank of what the state shows on a child, from 0 on; NONE where there is no such child.
-fn feasible_rank(v: Shape, j: usize, s: &[u8; LABELS], feasible: &[u32], tally: &[u8]) -> Feasible
+fn feasible_rank(v: Shape, j: usize, s: &Labels, feasible: &[u32], tally: &[u8]) -> Feasible
     requires { InPlace feasible.now tally.now v s.now × (j < v.arity → Listed feasible.now tally.now v (suc j) s.now) }
     ensures { ChildRank feasible.now tally.now v s.now j result.0 }
 {
@@ -50,7 +50,7 @@ fn feasible_rank(v: Shape, j: usize, s: &[u8; LABELS], feasible: &[u32], tally: 
 }
 
 // The ranks of all children.
-fn put_ranks(v: Shape, s: &[u8; LABELS], feasible: &[u32], tally: &[u8], out: &mut [u8], at: usize)
+fn put_ranks(v: Shape, s: &Labels, feasible: &[u32], tally: &[u8], out: &mut [u8], at: usize)
     requires { InPlace feasible.now tally.now v s.now × ChildrenListed feasible.now tally.now v s.now × (at + max_kids ≤ length out.old) }
     ensures { ChildRanks feasible.now tally.now v s.now max_kids out.old at out.new }
 {
@@ -63,19 +63,19 @@ fn put_ranks(v: Shape, s: &[u8; LABELS], feasible: &[u32], tally: &[u8], out: &m
 }
 
 // The labels by first appearance.
-fn put_labels(s: &[u8; LABELS], out: &mut [u8], at: usize)
+fn put_labels(s: &Labels, out: &mut [u8], at: usize)
     requires { State s.now × (at + labels ≤ length out.old) }
     ensures { out.new ≡ place at (tidied s.now) out.old }
 {
     let mut t = *s;
-    tidy(&mut t);
-    slices::lay(out, at, &t);
+    t.tidy();
+    slices::lay(out, at, t.as_bytes());
 }
 
 // An up entry: the plausible rank of what the state shows on slot 0. The answer is the place behind it.
 fn put_up(
     v: Shape,
-    s: &[u8; LABELS],
+    s: &Labels,
     plausible: &[u32],
     counts: &[u8],
     out: &mut [u8],
@@ -92,7 +92,7 @@ fn put_up(
 // A down entry: the labels, then the children's feasible ranks.
 fn put_down(
     v: Shape,
-    s: &[u8; LABELS],
+    s: &Labels,
     feasible: &[u32],
     tally: &[u8],
     out: &mut [u8],
@@ -110,7 +110,7 @@ fn put_down(
 pub fn put_entry(
     table: Table,
     v: Shape,
-    s: &[u8; LABELS],
+    s: &Labels,
     plausible: &[u32],
     counts: &[u8],
     feasible: &[u32],

@@ -12,7 +12,7 @@ ghost use Rattle.tables.specs.Making.{Settled};
 ghost use Rattle.tables.specs.Fill.{Ready, tied_once, entry_size, EntriesLaid, Choices, Asked, AllAsked, AllChoices, UpRun, DownRun};
 
 use super::entry::{Table, put_entry};
-use super::labels::{LABELS, NONE, base, tie};
+use super::labels::Labels;
 use super::sets::MAX_MEMBERS;
 use super::shape::{Shape, shape_of};
 use ranks::{Feasible, Plausible};
@@ -30,14 +30,13 @@ fn members_on(v: Shape, slot: u8, counts: &[u8]) -> u8
 }
 
 // The state s with the r-th member of a slot's kind tied to the slot: what both kinds of rank stand for.
-fn tie_member(v: Shape, slot: u8, r: u8, sets: &[u32], s: &[u8; LABELS]) -> [u8; LABELS]
+fn tie_member(v: Shape, slot: u8, r: u8, sets: &[u32], s: &Labels) -> Labels
     requires { Sized v × Ready v s.now × (slot ≤ v.arity) × (kind_of v slot * max_members + r < length sets.now) }
     ensures { result ≡ tied_once v slot (member sets.now (kind_of v slot) r) s.now }
 {
     let i = slot as usize;
     let mut t = *s;
-    tie(
-        &mut t,
+    t.tie(
         slot,
         v.widths[i],
         sets[v.kinds[i] as usize * MAX_MEMBERS + r as usize],
@@ -46,13 +45,7 @@ fn tie_member(v: Shape, slot: u8, r: u8, sets: &[u32], s: &[u8; LABELS]) -> [u8;
 }
 
 // The grouping with a plausible rank, tied to a child.
-fn tie_plausible(
-    v: Shape,
-    slot: u8,
-    r: Plausible,
-    plausible: &[u32],
-    s: &[u8; LABELS],
-) -> [u8; LABELS]
+fn tie_plausible(v: Shape, slot: u8, r: Plausible, plausible: &[u32], s: &Labels) -> Labels
     requires { Sized v × Ready v s.now × (slot ≤ v.arity) × (kind_of v slot * max_members + r.0 < length plausible.now) }
     ensures { result ≡ tied_once v slot (member plausible.now (kind_of v slot) r.0) s.now }
 {
@@ -60,7 +53,7 @@ fn tie_plausible(
 }
 
 // The grouping with a feasible rank, tied to the left kind.
-fn tie_feasible(v: Shape, r: Feasible, feasible: &[u32], s: &[u8; LABELS]) -> [u8; LABELS]
+fn tie_feasible(v: Shape, r: Feasible, feasible: &[u32], s: &Labels) -> Labels
     requires { Sized v × Ready v s.now × (kind_of v 0 * max_members + r.0 < length feasible.now) }
     ensures { result ≡ tied_once v 0 (member feasible.now (kind_of v 0) r.0) s.now }
 {
@@ -73,7 +66,7 @@ fn lay(
     table: Table,
     v: Shape,
     left: u8,
-    s: &[u8; LABELS],
+    s: &Labels,
     plausible: &[u32],
     counts: &[u8],
     feasible: &[u32],
@@ -116,7 +109,7 @@ fn lay(
 // The entries of all choices for the children, for each feasible grouping of the left kind, in order; the answer is the place behind them.
 fn lay_down(
     v: Shape,
-    s: &[u8; LABELS],
+    s: &Labels,
     plausible: &[u32],
     counts: &[u8],
     feasible: &[u32],
@@ -171,8 +164,7 @@ fn up_run(
 {
     let entry = places[p];
     let v = shape_of(book, entry);
-    let mut s = [NONE; LABELS];
-    base(book, entry, &mut s);
+    let s = Labels::base(book, entry);
     lay(
         Table::Up,
         v,
@@ -232,8 +224,7 @@ fn down_run(
 {
     let entry = places[p];
     let v = shape_of(book, entry);
-    let mut s = [NONE; LABELS];
-    base(book, entry, &mut s);
+    let s = Labels::base(book, entry);
     lay_down(v, &s, plausible, counts, feasible, tally, down, at)
 }
 

@@ -1,10 +1,8 @@
-// The states from which all was gathered already, in scratch memory: for each number of turns left a counter, and behind it places for states, of
-// which the oldest is overwritten.
-ghost use Rattle.std.specs.Prelude.{◌≡◌, true, ◌+◌, ◌*◌, ◌%◌, ◌<◌, min, length};
-ghost use Rattle.ranks.specs.Entries.{labels};
-ghost use Rattle.tables.specs.Seen.{places, levels, seen_bytes, filled, advanced, Found, remembered};
+// The states from which all was gathered already, for each number of turns left.
+ghost use Rattle.std.specs.Prelude.{◌≡◌, ◌⊎◌, true, List, ℕ, min};
+ghost use Rattle.tables.specs.Seen.{places, advanced, Found, remembered};
 
-use super::labels::{LABELS, same_state};
+use super::labels::Labels;
 
 // States for each number of turns left.
 const PLACES: usize = 64;
@@ -15,18 +13,13 @@ const FILLED: u8 = PLACES as u8;
 const LAST: u8 = 2 * FILLED - 1;
 
 // From no turn left to a turn for each slot.
-const LEVELS: usize = 2 + book::limits::MAX_CHILDREN as usize;
+pub const LEVELS: usize = 2 + book::limits::MAX_CHILDREN as usize;
 
-const LEVEL_BYTES: usize = 1 + PLACES * LABELS;
-
-pub const SEEN_BYTES: usize = LEVELS * LEVEL_BYTES;
-
-// How many of a level's places are filled, by its counter.
-fn filled(counter: u8) -> usize
-    ensures { result ≡ min counter places }
-{
-    let n = counter as usize;
-    if PLACES < n { PLACES } else { n }
+// The states for one number of turns left: places, of which the oldest is overwritten, and a counter.
+#[derive(Clone, Copy)]
+pub struct Level {
+    counter: u8,
+    states: [Labels; PLACES],
 }
 
 // The counter after one state more. Once all places are filled it goes round.
@@ -36,30 +29,37 @@ fn advanced(counter: u8) -> u8
     if counter < LAST { counter + 1 } else { FILLED }
 }
 
-// Whether the state s stands at a level.
-pub fn known(seen: &[u8], level: usize, s: &[u8; LABELS]) -> bool
-    requires { (level < levels) × (length seen.now ≡ seen_bytes) × (length s.now ≡ labels) }
-    ensures { result ≡ true → Found seen.now level s.now }
-{
-    let base = level * LEVEL_BYTES;
-    let n = filled(seen[base]);
-    let mut i = 0;
-    while i < n {
-        if same_state(s, seen, base + 1 + i * LABELS) {
-            return true;
+impl Level {
+    // No place is filled.
+    pub fn new() -> Level
+        ensures { result.counter ≡ 0 }
+    {
+        Level {
+            counter: 0,
+            states: [Labels::none(); PLACES],
         }
-        i += 1;
     }
-    false
-}
 
-// The state s put at a level.
-pub fn remember(seen: &mut [u8], level: usize, s: &[u8; LABELS])
-    requires { (level < levels) × (length seen.old ≡ seen_bytes) × (length s.now ≡ labels) }
-    ensures { seen.new ≡ remembered seen.old level s.now }
-{
-    let base = level * LEVEL_BYTES;
-    let counter = seen[base];
-    slices::lay(seen, base + 1 + counter as usize % PLACES * LABELS, s);
-    seen[base] = advanced(counter);
+    // How many places are filled, by the counter.
+    fn filled(&self) -> usize
+        ensures { result ≡ min self.now.counter places }
+    {
+        PLACES.min(self.counter as usize)
+    }
+
+    // Whether the state s stands here.
+    pub fn knows(&self, s: &Labels) -> bool
+        ensures { result ≡ true → Found self.now s.now }
+    {
+        self.states[..self.filled()].contains(s)
+    }
+
+    // The state s put here.
+    pub fn remember(&mut self, s: &Labels)
+        ensures exact { self.new ≡ remembered self.old s.now }
+        ensures only { (t : List ℕ) → Found self.new t → (t ≡ s.now) ⊎ Found self.old t }
+    {
+        self.states[self.counter as usize % PLACES] = *s;
+        self.counter = advanced(self.counter);
+    }
 }

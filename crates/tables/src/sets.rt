@@ -11,9 +11,5 @@ pub fn copy_members(sets: &[u32], k: usize, n: usize, list: &mut [u32], from: us
     ensures { list.new ≡ place from (part (k * max_members) n sets.now) list.old }
 {
     let base = k * MAX_MEMBERS;
-    let mut i = 0;
-    while i < n {
-        list[from + i] = sets[base + i];
-        i += 1;
-    }
+    list[from..from + n].copy_from_slice(&sets[base..base + n]);
 }

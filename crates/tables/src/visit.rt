@@ -6,9 +6,9 @@ ghost use Rattle.members.specs.Sets.{Placed};
 ghost use Rattle.tables.specs.State.{based};
 ghost use Rattle.tables.specs.Visit.{max_turns, Yields, Gathers, Opening, Opened, Barren, Prepared};
 
-use super::gather::{Visit, gather};
-use super::labels::{LABELS, NONE, SLOTS, base, width};
-use super::seen::SEEN_BYTES;
+use super::gather::{Turn, Visit, gather};
+use super::labels::{Labels, SLOTS, width};
+use super::seen::{LEVELS, Level};
 use super::sets::{MAX_MEMBERS, copy_members};
 use members::Full;
 
@@ -23,9 +23,11 @@ pub fn looking_at(book: &[u8], at: usize, slot: u8) -> Visit
     ensures { (S C : ℕ → List ℕ) (σ : ℕ → ℕ) (l : List ℕ) → length l ≡ max_turns * max_members → Opening book.now at slot σ S C result l 0 }
 {
     Visit {
-        slots: [0; SLOTS],
-        widths: [0; SLOTS],
-        sizes: [0; SLOTS],
+        turns: [Turn {
+            slot: 0,
+            width: 0,
+            size: 0,
+        }; SLOTS],
         target: slot,
         width: width(book, at, slot),
         kind: book::kind_in(book, at, slot),
@@ -50,9 +52,11 @@ pub fn open_turn(
     let n = counts[kind];
     copy_members(sets, kind, n as usize, lists, j * MAX_MEMBERS);
     let mut w = v;
-    w.slots[j] = slot;
-    w.widths[j] = width(book, at, slot);
-    w.sizes[j] = n;
+    w.turns[j] = Turn {
+        slot,
+        width: width(book, at, slot),
+        size: n,
+    };
     w
 }
 
@@ -61,14 +65,7 @@ fn barren(v: Visit, turns: usize) -> bool
     requires { turns ≤ max_turns }
     ensures { result ≡ true → Barren v turns }
 {
-    let mut i = 0;
-    while i < turns {
-        if v.sizes[i] == 0 {
-            return true;
-        }
-        i += 1;
-    }
-    false
+    v.turns[..turns].iter().any(|turn| turn.size == 0)
 }
 
 // All that comes of the production's base by choices for the turns is put into the kind's set.
@@ -88,8 +85,7 @@ pub fn visit(
     if barren(v, turns) {
         return Ok(false);
     }
-    let mut s = [NONE; LABELS];
-    base(book, at, &mut s);
-    let mut seen = [0u8; SEEN_BYTES];
+    let s = Labels::base(book, at);
+    let mut seen = [Level::new(); LEVELS];
     gather(v, turns, &s, lists, &mut seen, sets, counts)
 }

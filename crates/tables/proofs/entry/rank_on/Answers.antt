@@ -7,7 +7,7 @@ pub view-code-requires : goal.view-code-requires
 view-code-requires c =
     let h = c.requires.0 in
     let t = c.args.slot in
-    (h.ready.state, omega (arith, h.sized.arity), h.sized.widths t c.requires.1, h.ready.whole t c.requires.1)
+    (omega (arith, h.sized.arity), h.sized.widths t c.requires.1, h.ready.whole t c.requires.1)
 
 pub overflow_mul-kind : goal.overflow_mul-kind
 overflow_mul-kind c = omega (arith, (c.requires.0.placed c.args.slot c.requires.1).there)

@@ -1,18 +1,17 @@
 -- The down entries of a production. Assumes nothing.
-use mathlib.Core.Path.{refl}
 use Rattle.tables.proofs.EntryCounts.{opened_readable}
 use Rattle.tables.proofs.FillDown.{down_run_asks, down_run_laid}
 use Rattle.tables.proofs.fill.down_run.Goals as goal
 
-pub base-requires : goal.base-requires
-base-requires c = (refl, opened_readable c.requires.0 _ c.requires.1)
+pub base-s-requires : goal.base-s-requires
+base-s-requires c = opened_readable c.requires.0 _ c.requires.1
 
 pub lay_down-requires : goal.lay_down-requires
 lay_down-requires c =
     let o = c.requires in
-    down_run_asks o.0 o.1 c.shape_of-v.ensures o.2 c.base.ensures o.3
+    down_run_asks o.0 o.1 c.shape_of-v.ensures o.2 c.base-s.ensures o.3
 
 pub returns : goal.returns
 returns c =
     let o = c.requires in
-    down_run_laid o.0 o.1 c.shape_of-v.ensures o.2 c.base.ensures c.lay_down.ensures
+    down_run_laid o.0 o.1 c.shape_of-v.ensures o.2 c.base-s.ensures c.lay_down.ensures

@@ -3,5 +3,4 @@ use native.Mathlib.Omega.{arith}
 use Rattle.tables.proofs.fill.tie_member.Goals as goal
 
 pub tie-requires : goal.tie-requires
-tie-requires c =
-    (c.requires.1.state.long, omega (arith, c.requires.0.arity), c.requires.0.widths c.args.slot c.requires.2)
+tie-requires c = (omega (arith, c.requires.0.arity), c.requires.0.widths c.args.slot c.requires.2)

@@ -6,5 +6,5 @@ use Rattle.tables.proofs.gather.+gather.Given as goal
 abbrev pub decreases-gather : goal.decreases-gather
 decreases-gather l = l.j
 
-abbrev pub invariant-loop-i : goal.invariant-loop-i
-invariant-loop-i l = Looping l.v l.lists (l.j - 1) l.s l.initial.sets l.initial.counts l.seen l.sets l.counts l.added l.i
+abbrev pub invariant-loop-code : goal.invariant-loop-code
+invariant-loop-code l = Looping l.v l.lists (l.j - 1) l.s l.initial.sets l.initial.counts l.seen l.sets l.counts l.added l.code-index

@@ -1,21 +1,14 @@
 -- The search for the first setting of a label. Assumes nothing.
-use mathlib.Core.Path.{◌≡◌, sym, ◌∙◌}
-use native.Mathlib.Omega.{arith}
-use Rattle.lists.proofs.Sought.{free_none}
+use borrow.Author.Tests.{tests}
+use Rattle.std.proofs.Common.{◌≡◌, rules}
+use Rattle.std.proofs.lemmas.Iterator.{first_from_Range}
 use Rattle.chains.specs.Grouping.{label}
-use Rattle.tables.proofs.StateLoops.{alike_found, alike_passed, alike_last}
+use Rattle.tables.proofs.StateLoops.{alike_first}
 use Rattle.tables.proofs.labels.first_alike.Goals as goal
 
-pub loop-i-init : goal.loop-i-init
-loop-i-init c = (omega arith, free_none (λ k. label c.args.code k ≡ label c.args.code c.args.x))
-
-pub returns-then-label-v : goal.returns-then-label-v
-returns-then-label-v c =
-    alike_found _ _ c.loop-i.invariant c.label-v.ensures (sym c.label.ensures ∙ c.if-label-v.true)
-
-pub loop-i-preserved : goal.loop-i-preserved
-loop-i-preserved c =
-    alike_passed _ _ (omega arith) c.loop-i.invariant.1 c.label-v.ensures (λ e. c.if-label-v.false (c.label.ensures ∙ e))
-
 pub returns : goal.returns
-returns c = alike_last _ _ c.loop-i.invariant c.loop-i-test.false
+returns c =
+    let v = c.label-v.result in
+    rw c.unwrap_or.ensures (alike_first c.args.code c.args.x v c.find.result c.label-v.ensures
+    (first_from_Range _ _ _ _ (λ k. label c.args.code k ≡ v) (λ k. label c.args.code k ≡ v → ⊥) c.find.ensures.ran
+    (λ k q h. search (rules, tests)) (λ k q h. search (rules, tests))))

@@ -16,9 +16,7 @@ pub returns : goal.returns
 returns c =
     let e = c.kind_in-kind.ensures in
     record {
-      slots_now = refl;
-      widths_now = rw c.width.ensures;
-      sizes_now = rw e;
+      turns_now = rw (c.width.ensures, e);
       rest = (refl, refl, refl);
       lists_now = c.copy_members.ensures ∙ rw e;
     }

@@ -6,7 +6,7 @@ pub returns-then-barren : goal.returns-then-barren
 returns-then-barren c = visit_barren _ _ _ _ _ _ (c.barren.ensures c.if-barren.true)
 
 pub gather-requires : goal.gather-requires
-gather-requires c = visit_request _ _ _ _ c.base.ensures c.requires
+gather-requires c = visit_request _ _ _ _ c.base-s.ensures c.new-seen.result c.new-seen.ensures c.requires
 
 pub returns : goal.returns
-returns c = visit_done _ _ c.args.book.now c.args.at c.base.ensures c.gather.ensures
+returns c = visit_done _ _ c.args.book.now c.args.at c.base-s.ensures c.gather.ensures
