@@ -5,9 +5,10 @@ use Prim.Native.Nat.{ℕ, zero, suc, ◌+◌, ◌*◌, ◌/◌, ◌%◌, ◌^◌
 use native.Mathlib.Nat.{mul_comm, mul-le-mul, pow-zero, pow-suc, div-add-mod'}
 use native.Mathlib.Omega.{arith}
 use lib.ListN.{length, get_or}
+use Rattle.std.proofs.lemmas.Nat.{same_from_place}
 use Rattle.chains.specs.Grammar.{Grammar}
 use Rattle.ranks.specs.Entries.{Ranks, choices, choice, up_start, up_entry, down_start, down_entry}
-use Rattle.ranks.proofs.Digits.{digit_below, digit_once, first_below, rest_below}
+use Rattle.ranks.proofs.Digits.{digit_below, first_below, rest_below}
 use Rattle.ranks.proofs.Runs.{starts, starts_after, starts_few, run_once, run_of}
 
 -- ── choices ──
@@ -25,7 +26,7 @@ choice_once c [] (r ∷ rs) rs' h h' e = absurd h
 choice_once c (k ∷ ks) [] rs' h h' e = absurd h
 choice_once c (k ∷ ks) (r ∷ rs) [] h h' e = absurd h'
 choice_once c (k ∷ ks) (r ∷ rs) (r' ∷ rs') h h' e =
-    let d = digit_once r (choice c ks rs) r' (choice c ks rs') (choice_below c ks rs h.1) (choice_below c ks rs' h'.1) e in
+    let d = same_from_place r (choice c ks rs) r' (choice c ks rs') (choices c ks) (choice_below c ks rs h.1) (choice_below c ks rs' h'.1) e in
     ap₂ ◌∷◌ d.0 (choice_once c ks rs rs' h.1 h'.1 d.1)
 
 -- the ranks of the choice with the number x

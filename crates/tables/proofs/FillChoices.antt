@@ -8,7 +8,7 @@ use native.Mathlib.Omega.{arith}
 use lib.ListN.{length, get_or}
 use Rattle.chains.specs.Limits.{max_kids, max_members}
 use Rattle.ranks.specs.Entries.{Ranks, choices, choice, entry_bytes}
-use Rattle.ranks.proofs.Digits.{digit_once}
+use Rattle.std.proofs.lemmas.Nat.{same_from_place}
 use Rattle.ranks.proofs.Numbers.{choice_below}
 use Rattle.members.specs.Sets.{member}
 use Rattle.tables.specs.Entries.{picked}
@@ -56,7 +56,7 @@ module _ (table : Table) (v : Shape) (t : ℕ) (s c f d : List ℕ) where
   unfolding picked tied choice
   rank_behind x k ks r i l b q [] h e = absurd h
   rank_behind x k ks r i l b q (u ∷ rs) h e =
-      let (first, rest) = digit_once u (choice c ks rs) r i (choice_below c ks rs h.1) l e in
+      let (first, rest) = same_from_place u (choice c ks rs) r i (choices c ks) (choice_below c ks rs h.1) l e in
       subst (λ u. Entry table s c f d v (tied v (suc t) (picked s ks rs) (tied_once v t (member s k u) x)) b) (sym first) (q rs h.1 rest)
 
   rank_rankable : (x : List ℕ) (k : ℕ) (ks : List ℕ) (r : ℕ) → r < get_or c k 0 → ((rs : List ℕ) → Ranks c (k ∷ ks) rs → Rankable table s c f d v (chosen v t s (k ∷ ks) rs x))
@@ -172,7 +172,7 @@ module _ {table : Table} {v : Shape} {left : ℕ} {s c f d x out : List ℕ} {a 
 member_behind : (v : Shape) (s c f d ks x : List ℕ) (u : ℕ)
     → Behind (u * choices c ks) (choices c ks) (AllChoices v s c f d ks x) (Choices Down v 1 s c f d ks (tied_once v 0 (member f (kind_of v 0) u) x))
 member_behind v s c f d ks x u i l b q u' rs h r e =
-    let (first, rest) = digit_once u' (choice c ks rs) u i (choice_below c ks rs r) l e in
+    let (first, rest) = same_from_place u' (choice c ks rs) u i (choices c ks) (choice_below c ks rs r) l e in
     subst (λ (u : ℕ). Entry Down s c f d v (chosen v 1 s ks rs (tied_once v 0 (member f (kind_of v 0) u) x)) b) (sym first) (q rs r rest)
 
 module _ {v : Shape} {s c f d x out : List ℕ} {a : ℕ} (h : AllAsked v s c f d x out a) {n : ℕ} (e : n ≡ get_or d (kind_of v 0) 0) where
