@@ -7,9 +7,7 @@ use native.Mathlib.Numerals.{add-one}
 use native.Mathlib.Omega.{arith}
 use lib.ListN.{length, get_or, drop}
 use lib.Seq.{drop-cons}
-use Rattle.std.proofs.Common.{Fits, w64}
 use Rattle.std.proofs.lemmas.List.{length-map, get_or-map}
-use Rattle.chains.specs.Limits.{max_kids}
 use Rattle.ranks.specs.Entries.{choices, choice, byte_values}
 use Rattle.ranks.specs.Reads.{from, counts_of, numbers}
 use Rattle.ranks.specs.declared.Chosen.{Chosen}
@@ -45,9 +43,6 @@ module _ {n most : ℕ} {ns rs : List ℕ} {x i : ℕ} (k : Counting n most ns r
       let b : x * y ≤ x * byte_values = mul-le-mul_left x (omega arith) in
       omega (arith, digit_below {m = byte_values} x r k.small lr, pow-suc byte_values (suc i))
 
-  counting_sum : i < n → {y r : ℕ} → y < byte_values → r < byte_values → x * y + r < byte_values ^ suc n
-  counting_sum more ly lr = omega (arith, grown ly lr, pow-le-pow_right {n = byte_values} (omega arith) {i = suc (suc i)} {j = suc n} (omega arith))
-
   pub counting_step : i < n → i < length rs → {y r : ℕ} → y ≡ get_or ns i 0 → y < byte_values → r ≡ get_or rs i 0 → r < byte_values → Counting n most ns rs (x * y + r) (i + 1)
   unfolding from
   counting_step more here {y} {r} ey ly er lr =
@@ -65,14 +60,6 @@ module _ {n most : ℕ} {ns rs : List ℕ} {x i : ℕ} (k : Counting n most ns r
       let e : n - i ≡ 0 = omega (arith, k.at) in
       let f : x * 1 + 0 ≡ under most ns (from 0 n) rs = rw e at k.rest in
       omega arith
-
--- the number grows within 64 bits
-module _ {most : ℕ} {ns rs : List ℕ} {x i : ℕ} (k : Counting max_kids most ns rs x i) (more : i < max_kids) where
-  pub counting_fits : {y r : ℕ} → y < byte_values → r < byte_values → Fits w64 (x * y + r)
-  counting_fits ly lr = omega (arith, counting_sum k more ly lr)
-
-  pub counting_weighed : {y : ℕ} → y < byte_values → Fits w64 (x * y)
-  counting_weighed {y} l = omega (arith, counting_sum k more {y = y} {r = 0} l (omega arith))
 
 -- ── a child's count and rank ──
 module _ (l : List Chosen) where

@@ -1,13 +1,7 @@
 -- The number grows by a digit with each child: its count is the weight of those before, its rank the new digit.
 use Rattle.std.proofs.Common.{arith}
-use Rattle.ranks.proofs.Counting.{counting_weighed, counting_fits, counting_step, counting_small, counting_done, numbers_long, count_at, number_at}
+use Rattle.ranks.proofs.Counting.{counting_step, counting_small, counting_done, numbers_long, count_at, number_at}
 use Rattle.ranks.proofs.numbered.Goals as goal
-
-pub overflow_mul-number : goal.overflow_mul-number
-overflow_mul-number c = counting_weighed c.loop-count.invariant (omega arith) (omega arith)
-
-pub overflow_add-number : goal.overflow_add-number
-overflow_add-number c = counting_fits c.loop-count.invariant (omega arith) (omega arith) (omega arith)
 
 pub loop-count-preserved : goal.loop-count-preserved
 loop-count-preserved c =

@@ -7,6 +7,3 @@ returns-then-up-ups c = rw c.at.ensures (up_exceeds (omega arith))
 
 pub returns-then-down-downs : goal.returns-then-down-downs
 returns-then-down-downs c = rw c.at-then-down-downs.ensures (down_exceeds (omega arith) (omega arith))
-
-pub returns : goal.returns
-returns c = (omega arith, omega arith)
