@@ -2,7 +2,7 @@
 use mathlib.Core.Path.{◌≡◌, sym, ap, ◌∙◌}
 use mathlib.Core.List.{List, ◌∷◌}
 use Prim.Native.Nat.{ℕ, suc, ◌+◌, ◌-◌, ◌*◌, ◌^◌, ◌≤◌, ◌<◌}
-use native.Mathlib.Nat.{mul_assoc, mul-le-mul_left, add-mul, add_assoc, pow-suc, pow-le-pow_right, sub-zero}
+use native.Mathlib.Nat.{mul_assoc, mul-le-mul_left, add-mul, add_assoc, pow-suc, pow-le-pow_right}
 use native.Mathlib.Numerals.{add-one}
 use native.Mathlib.Omega.{arith}
 use lib.ListN.{length, get_or, drop}
@@ -28,10 +28,6 @@ unfolding choices choice
 under_step x ns k ks r rs =
     ap (λ m. m + choice ns ks rs) (add-mul (x * get_or ns k 0) r (choices ns ks) ∙ ap (λ m. m + r * choices ns ks) (mul_assoc x (get_or ns k 0) (choices ns ks)))
     ∙ add_assoc (x * (get_or ns k 0 * choices ns ks)) (r * choices ns ks) (choice ns ks rs)
-
-module _ (n most : ℕ) (ns rs : List ℕ) where
-  pub counting_none : {x : ℕ} → x ≡ most → x < byte_values → Counting n most ns rs x 0
-  counting_none e h = record { at = omega arith; small = omega arith; rest = rw (sub-zero, e) }
 
 module _ {n most : ℕ} {ns rs : List ℕ} {x i : ℕ} (k : Counting n most ns rs x i) where
   pub counting_small : x < byte_values ^ suc n
