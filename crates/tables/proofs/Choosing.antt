@@ -11,7 +11,7 @@ use Rattle.chains.specs.Limits.{max_settings, max_kids}
 use Rattle.chains.specs.State.{dropped}
 use Rattle.tables.specs.State.{State, spot, Whole, tidied}
 use Rattle.tables.specs.Visit.{slot_of, width_of, released, tied, chosen, Ready, Standing}
-use Rattle.tables.specs.declared.gather.Visit.{Visit}
+use Rattle.tables.specs.declared.visit.Visit.{Visit}
 use Rattle.tables.proofs.State.{tie_means, forget_state}
 use Rattle.tables.proofs.StateTidy.{tidy_state, tidy_present}
 use Rattle.tables.proofs.StateWalk.{step_state, step_whole}

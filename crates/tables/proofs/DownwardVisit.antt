@@ -25,7 +25,7 @@ use Rattle.tables.specs.State.{based}
 use Rattle.tables.specs.Visit.{max_turns, Yields, Gathered, OldOr, Gathers, Opening, Prepared}
 use Rattle.tables.specs.Downward.{slot_down, given}
 use Rattle.members.specs.declared.Full.{Full}
-use Rattle.tables.specs.declared.gather.Visit.{Visit}
+use Rattle.tables.specs.declared.visit.Visit.{Visit}
 use Rattle.tables.proofs.Memory.{fine_placed}
 use Rattle.tables.proofs.Gathering.{gathers_map}
 use Rattle.tables.proofs.StateBase.{few_kids}
@@ -87,8 +87,8 @@ module _ {b : List ℕ} (a : Accepted b) (p : ℕ) (l : p < prods b) where
   codes_given f d s c zero x = rw (given_left f s 0 refl, given_left d c 0 refl) (λ m. m, λ m. m)
   codes_given f d s c (suc j) x = rw (given_child f s (suc j) (λ e. omega arith), given_child d c (suc j) (λ e. omega arith)) (λ m. m, λ m. m)
 
-  module _ {f d s c : List ℕ} {P : ℕ → ℕ → Type 0} (g : Fine (kinds b) (Has f d) f d) (h : Fine (kinds b) P s c) (j : ℕ) (hj : j < length ((grammar b).kids p)) {v : Visit} {u : List ℕ}
-      (o : Opening b (entry b p) (suc j) (slot_down (suc j)) (λ i. given f s (slot_down (suc j) i)) (λ i. given d c (slot_down (suc j) i)) v u (suc (arity_at b (entry b p)))) where
+  module _ {f d s c : List ℕ} {P : ℕ → ℕ → Type 0} (g : Fine (kinds b) (Has f d) f d) (h : Fine (kinds b) P s c) (j : ℕ) (hj : j < length ((grammar b).kids p)) {v : Visit}
+      (o : Opening b (entry b p) (suc j) (slot_down (suc j)) (λ i. given f s (slot_down (suc j) i)) (λ i. given d c (slot_down (suc j) i)) v (suc (arity_at b (entry b p)))) where
     inside : (i : ℕ) → i < suc (arity_at b (entry b p)) → slot_down (suc j) i < length (slots (grammar b) p)
     inside i k = let z = slot_within (suc j) i (length ((grammar b).kids p)) hj (omega (arith, arity_read a p l)) in omega arith
 
@@ -110,7 +110,7 @@ module _ {b : List ℕ} (a : Accepted b) (p : ℕ) (l : p < prods b) where
     kind_is : v.kind ≡ get_or ((grammar b).kids p) j 0
     kind_is = plan_kind a p l o target few inside apart placed
 
-    pub down_prepared : Prepared b (entry b p) v (suc (arity_at b (entry b p))) u f d
+    pub down_prepared : Prepared b (entry b p) v f d
     down_prepared = plan_prepared a p l o target few inside apart placed (record { kinds = kinds b; below = rw kind_is (a.lawful.kids_in p j l hj); fine = g })
 
     opened : (t : ℕ) → ((i : ℕ) × (i < suc (arity_at b (entry b p))) × (slot_down (suc j) i ≡ t)) ↔ Towards (suc j) (length (slots (grammar b) p)) t
@@ -120,15 +120,15 @@ module _ {b : List ℕ} (a : Accepted b) (p : ℕ) (l : p < prods b) where
         back (inl q) = let (i, k, e) = slot_onto (suc j) (length ((grammar b).kids p)) t hj (omega arith) in (i, omega (arith, arity_read a p l), e)
         back (inr q) = (0, omega arith, slot_first (suc j) 0 refl ∙ sym q)
 
-    yields_down : (x : ℕ) → Yields v u (suc (arity_at b (entry b p))) (based b (entry b p)) x ↔ StepDown (grammar b) (Has f d) (Has s c) p (suc j) x
+    yields_down : (x : ℕ) → Yields v v.opened (based b (entry b p)) x ↔ StepDown (grammar b) (Has f d) (Has s c) p (suc j) x
     yields_down x =
         let y = plan_result a p l o target few inside apart placed (CodesOf (grammar b) (Has f d) (Has s c) p) (λ i x k. codes_given f d s c (slot_down (suc j) i) x)
         (Towards (suc j) (length (slots (grammar b) p))) opened x in
         let e = gathered_down (grammar b) (Has f d) (Has s c) p (suc j) target x in
-        (λ m. e.0 (y.0 m), λ m. y.1 (e.1 m))
+        subst (λ k. Yields v k (based b (entry b p)) x ↔ StepDown (grammar b) (Has f d) (Has s c) p (suc j) x) (sym o.opened) (λ m. e.0 (y.0 m), λ m. y.1 (e.1 m))
 
     -- THEOREM: a visit puts in what the downward step gives on the child's slot
-    pub down_gathers : {f' d' : List ℕ} {r : Result Bool Full} → Gathers v.kind (Yields v u (suc (arity_at b (entry b p))) (based b (entry b p))) f d f' d' r
+    pub down_gathers : {f' d' : List ℕ} {r : Result Bool Full} → Gathers v.kind (Yields v v.opened (based b (entry b p))) f d f' d' r
         → Turned (kinds b) (OldOr f d (get_or ((grammar b).kids p) j 0) (StepDown (grammar b) (Has f d) (Has s c) p (suc j)))
         (Gathered (get_or ((grammar b).kids p) j 0) (StepDown (grammar b) (Has f d) (Has s c) p (suc j)) f' d') f d f' d' r
     down_gathers {f'} {d'} {r} m =

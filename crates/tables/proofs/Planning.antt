@@ -17,7 +17,7 @@ use Rattle.bookcheck.proofs.Accepted.{arity_read, kind_in_read}
 use Rattle.members.specs.Sets.{Has, member, Placed}
 use Rattle.tables.specs.State.{width_in, based}
 use Rattle.tables.specs.Visit.{max_turns, slot_of, width_of, size_of, code_of, Yields, Ready, Standing, InOrder, Opening, Prepared}
-use Rattle.tables.specs.declared.gather.Visit.{Visit}
+use Rattle.tables.specs.declared.visit.Visit.{Visit}
 use Rattle.members.proofs.Ranked.{ranked_has, rank_of}
 use Rattle.tables.proofs.StateBase.{few_kids, width_is, few_settings, readable, base_state}
 use Rattle.tables.proofs.StateWalk.{base_whole, base_result}
@@ -30,7 +30,7 @@ module _ {b : List ℕ} (a : Accepted b) (p : ℕ) (l : p < prods b) where
   abbrev kind_on : ℕ → ℕ
   kind_on s = get_or (slots (grammar b) p) s 0
 
-  module _ {t n : ℕ} {σ : ℕ → ℕ} {S C : ℕ → List ℕ} {v : Visit} {u : List ℕ} (h : Opening b (entry b p) t σ S C v u n)
+  module _ {t n : ℕ} {σ : ℕ → ℕ} {S C : ℕ → List ℕ} {v : Visit} (h : Opening b (entry b p) t σ S C v n)
       (target : t < length (slots (grammar b) p))
       (few : n ≤ max_turns)
       (inside : (i : ℕ) → i < n → σ i < length (slots (grammar b) p))
@@ -77,11 +77,11 @@ module _ {b : List ℕ} (a : Accepted b) (p : ℕ) (l : p < prods b) where
     }
 
     -- THEOREM: it may be made
-    pub plan_prepared : {s c : List ℕ} → InOrder v.kind s c → Prepared b (entry b p) v n u s c
-    plan_prepared o = record { readable = readable a p l; ready = plan_ready; standing = plan_standing; lists = h.sized.lists; order = o }
+    pub plan_prepared : {s c : List ℕ} → InOrder v.kind s c → Prepared b (entry b p) v s c
+    plan_prepared o = record { readable = readable a p l; ready = subst (Ready v) (sym h.opened) plan_ready; standing = subst (λ k. Standing v k (based b (entry b p))) (sym h.opened) plan_standing; order = o }
 
     module _ (Codes : ℕ → ℕ → Type 0) (codes : (i c : ℕ) → i < n → Codes (σ i) c ↔ Has (S i) (C i) (kind_on (σ i)) c) where
-      planned : Planned G p v u Codes n
+      planned : Planned G p v Codes n
       planned = record {
         ready = plan_ready;
         width_is = looked ∙ ap (width G p) (sym h.target);
@@ -92,24 +92,24 @@ module _ {b : List ℕ} (a : Accepted b) (p : ℕ) (l : p < prods b) where
           size : (i : ℕ) → i < n → size_of v i ≡ get_or (C i) (kind_on (σ i)) 0
           size i k = (h.taken i k).size_is ∙ ap (λ (j : ℕ). get_or (C i) j 0) (kind_at (σ i) (inside i k))
 
-          code : (i r : ℕ) → i < n → r < size_of v i → code_of u i r ≡ member (S i) (kind_on (σ i)) r
+          code : (i r : ℕ) → i < n → r < size_of v i → code_of v i r ≡ member (S i) (kind_on (σ i)) r
           code i r k q = (h.taken i k).codes_are r q ∙ ap (λ (j : ℕ). member (S i) j r) (kind_at (σ i) (inside i k))
 
-          to : (i c : ℕ) → i < n → Has (S i) (C i) (kind_on (σ i)) c → (r : ℕ) × (r < size_of v i) × (code_of u i r ≡ c)
+          to : (i c : ℕ) → i < n → Has (S i) (C i) (kind_on (σ i)) c → (r : ℕ) × (r < size_of v i) × (code_of v i r ≡ c)
           to i c k m =
               let (r, q, e) = rank_of (placed i k) m in
               let z : r < size_of v i = omega (arith, size i k) in
               (r, z, code i r k z ∙ e)
 
-          from : (i c : ℕ) → i < n → (r : ℕ) × (r < size_of v i) × (code_of u i r ≡ c) → Has (S i) (C i) (kind_on (σ i)) c
+          from : (i c : ℕ) → i < n → (r : ℕ) × (r < size_of v i) × (code_of v i r ≡ c) → Has (S i) (C i) (kind_on (σ i)) c
           from i c k (r, q, e) = subst (Has (S i) (C i) (kind_on (σ i))) (sym (code i r k q) ∙ e) (ranked_has (placed i k) r (omega (arith, size i k)))
 
       -- THEOREM: and yields what is gathered over its production's slots
       pub plan_result : (Open : ℕ → Type 0) → ((s : ℕ) → ((i : ℕ) × (i < n) × (σ i ≡ s)) ↔ Open s) → (x : ℕ)
-          → Yields v u n (based b (entry b p)) x ↔ Result G p t Codes Open (Tied G p) x
+          → Yields v n (based b (entry b p)) x ↔ Result G p t Codes Open (Tied G p) x
       plan_result Open opened x =
-          let y = subst (λ t. Yields v u n (based b (entry b p)) x ↔ Result G p t Codes (Among v n) (Shown (based b (entry b p))) x) h.target
-          (yields_result G p v u Codes n planned plan_standing x) in
+          let y = subst (λ t. Yields v n (based b (entry b p)) x ↔ Result G p t Codes (Among v n) (Shown (based b (entry b p))) x) h.target
+          (yields_result G p v Codes n planned plan_standing x) in
           let o = result_open G p t Codes (Among v n) Open (Shown (based b (entry b p))) x (λ s. (λ (i, k, e). (opened s).0 (i, k, sym (turn_slot i k) ∙ e), λ m. back s ((opened s).1 m))) in
           let d = base_result a p l t Codes Open x in
           (λ m. d.0 (o.0 (y.0 m)), λ m. y.1 (o.1 (d.1 m)))

@@ -12,29 +12,29 @@ use Rattle.tables.specs.Seen.{levels}
 use Rattle.tables.specs.declared.seen.Level.{Level}
 use Rattle.tables.specs.Visit.{size_of, code_of, chosen, Yields, Gathers, Done, Request, Reply, Barren, Prepared}
 use Rattle.members.specs.declared.Full.{Full}
-use Rattle.tables.specs.declared.gather.Visit.{Visit}
+use Rattle.tables.specs.declared.visit.Visit.{Visit}
 use Rattle.tables.proofs.Memory.{kept_refl}
 use Rattle.tables.proofs.StatesSeen.{stored_none}
 use Rattle.tables.proofs.Gathering.{fine_widen}
 
-module _ (v : Visit) (l : List ℕ) where
+module _ (v : Visit) where
   -- where some turn has no code, nothing comes of any state
-  none_yields : (j : ℕ) → Barren v j → (s : List ℕ) (x : ℕ) → Yields v l j s x → ⊥
+  none_yields : (j : ℕ) → Barren v j → (s : List ℕ) (x : ℕ) → Yields v j s x → ⊥
   unfolding Yields
   none_yields zero (i, b, e) s x y = omega arith
   none_yields (suc j) (i, b, e) s x (r, h, y) =
-      by_order ⊥ i j (λ q. let z : size_of v j ≡ 0 = rw q at e in omega arith) (λ q. none_yields j (i, q, e) (chosen v j (code_of l j r) s) x y) (λ q. omega arith)
+      by_order ⊥ i j (λ q. let z : size_of v j ≡ 0 = rw q at e in omega arith) (λ q. none_yields j (i, q, e) (chosen v j (code_of v j r) s) x y) (λ q. omega arith)
 
-  pub visit_barren : (j : ℕ) (u s c : List ℕ) → Barren v j → Gathers v.kind (Yields v l j u) s c s c (Ok false)
+  pub visit_barren : (j : ℕ) (u s c : List ℕ) → Barren v j → Gathers v.kind (Yields v j u) s c s c (Ok false)
   visit_barren j u s c h n b f = record {
     fine = fine_widen (λ k x b m. inl m) f;
     kept = kept_refl n s c;
     case = (refl, refl, λ x y. absurd (none_yields j h u x y));
   }
 
-  module _ (b : List ℕ) (at : ℕ) {n : ℕ} {s c u : List ℕ} (e : u ≡ based b at) where
-    pub visit_request : (w : Level) → w.counter ≡ 0 → Prepared b at v n l s c → Request v l n u (replicate levels w) s c
-    visit_request w z h = record { ready = h.ready; standing = rw e h.standing; lists = h.lists; order = h.order; seen = stored_none (Done v l s c) w z }
+  module _ (b : List ℕ) (at : ℕ) {s c u : List ℕ} (e : u ≡ based b at) where
+    pub visit_request : (w : Level) → w.counter ≡ 0 → Prepared b at v s c → Request v v.opened u (replicate levels w) s c
+    visit_request w z h = record { ready = h.ready; standing = rw e h.standing; order = h.order; seen = stored_none (Done v s c) w z }
 
-    pub visit_done : {kept : List Level} {s' c' : List ℕ} {r : Result Bool Full} → Reply v l n u s c kept s' c' r → Gathers v.kind (Yields v l n (based b at)) s c s' c' r
-    visit_done {s' = s'} {c'} {r} p = subst (λ u. Gathers v.kind (Yields v l n u) s c s' c' r) e p.turned
+    pub visit_done : {kept : List Level} {s' c' : List ℕ} {r : Result Bool Full} → Reply v v.opened u s c kept s' c' r → Gathers v.kind (Yields v v.opened (based b at)) s c s' c' r
+    visit_done {s' = s'} {c'} {r} p = subst (λ u. Gathers v.kind (Yields v v.opened u) s c s' c' r) e p.turned

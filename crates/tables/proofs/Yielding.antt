@@ -20,7 +20,7 @@ use Rattle.chains.proofs.Gather.{result_map, result_open, result_none, result_mo
 use Rattle.chains.proofs.Tying.{tied_shown}
 use Rattle.tables.specs.State.{State, Whole, tidied}
 use Rattle.tables.specs.Visit.{slot_of, width_of, size_of, code_of, chosen, Yields, Ready, Standing}
-use Rattle.tables.specs.declared.gather.Visit.{Visit}
+use Rattle.tables.specs.declared.visit.Visit.{Visit}
 use Rattle.tables.proofs.State.{tie_means}
 use Rattle.tables.proofs.StateWalk.{tidy_shown, code_only, step_result}
 use Rattle.tables.proofs.Choosing.{ready_less, chosen_standing}
@@ -30,11 +30,11 @@ abbrev pub Among : Visit → ℕ → ℕ → Type 0
 Among v j s = (i : ℕ) × (i < j) × (slot_of v i ≡ s)
 
 -- the turns before j are those of production p, each with the codes of its slot
-pub record Planned (G : Grammar) (p : ℕ) (v : Visit) (l : List ℕ) (Codes : ℕ → ℕ → Type 0) (j : ℕ) : Type 0 where
+pub record Planned (G : Grammar) (p : ℕ) (v : Visit) (Codes : ℕ → ℕ → Type 0) (j : ℕ) : Type 0 where
   pub ready : Ready v j
   pub width_is : v.width ≡ width G p v.target
   pub widths_are : (i : ℕ) → i < j → width_of v i ≡ width G p (slot_of v i)
-  pub codes_are : (i c : ℕ) → i < j → Codes (slot_of v i) c ↔ ((r : ℕ) × (r < size_of v i) × (code_of l i r ≡ c))
+  pub codes_are : (i c : ℕ) → i < j → Codes (slot_of v i) c ↔ ((r : ℕ) × (r < size_of v i) × (code_of v i r ≡ c))
 
 -- ---- a slot tied and not dropped
 module _ (G : Grammar) (p : ℕ) {s : List ℕ} (st : State s) (j : ℕ) (hw : width G p j ≤ max_settings) (w : Whole s j (width G p j)) where
@@ -58,8 +58,8 @@ module _ (G : Grammar) (p : ℕ) {s : List ℕ} (st : State s) (j : ℕ) (hw : w
       from o q h = fwd done (tt, tt, (tied_shown G p j c hw s w o q).0 (fwd done ((tidy_shown now o q).0 h)))
 
 -- ---- one turn
-module _ (G : Grammar) (p : ℕ) (v : Visit) (l : List ℕ) (Codes : ℕ → ℕ → Type 0) where
-  planned_less : {j : ℕ} → Planned G p v l Codes (suc j) → Planned G p v l Codes j
+module _ (G : Grammar) (p : ℕ) (v : Visit) (Codes : ℕ → ℕ → Type 0) where
+  planned_less : {j : ℕ} → Planned G p v Codes (suc j) → Planned G p v Codes j
   planned_less h = record {
     ready = ready_less h.ready;
     width_is = h.width_is;
@@ -67,7 +67,7 @@ module _ (G : Grammar) (p : ℕ) (v : Visit) (l : List ℕ) (Codes : ℕ → ℕ
     codes_are = λ i c b. h.codes_are i c (omega arith);
   }
 
-  module _ (j : ℕ) (h : Planned G p v l Codes (suc j)) where
+  module _ (j : ℕ) (h : Planned G p v Codes (suc j)) where
     among_more : (s : ℕ) → Among v (suc j) s ↔ ((s ≡ slot_of v j) ⊎ Among v j s)
     among_more s = (to, from)
       where
@@ -129,8 +129,8 @@ module _ (G : Grammar) (p : ℕ) (v : Visit) (l : List ℕ) (Codes : ℕ → ℕ
           go false e = off_target (eqb-false (slot_of v j) v.target e)
 
   -- THEOREM: what comes of a state by the turns before j is what is gathered over their slots
-  pub yields_result : (j : ℕ) → Planned G p v l Codes j → {s : List ℕ} → Standing v j s → (x : ℕ)
-      → Yields v l j s x ↔ Result G p v.target Codes (Among v j) (Shown s) x
+  pub yields_result : (j : ℕ) → Planned G p v Codes j → {s : List ℕ} → Standing v j s → (x : ℕ)
+      → Yields v j s x ↔ Result G p v.target Codes (Among v j) (Shown s) x
   unfolding Yields
   yields_result zero h {s} st x =
       let a = result_none G p v.target Codes (Among v 0) (Shown s) x (λ s (i, b, e). omega arith) in
@@ -139,11 +139,11 @@ module _ (G : Grammar) (p : ℕ) (v : Visit) (l : List ℕ) (Codes : ℕ → ℕ
       rw w (λ e. a.1 (b.1 e), λ r. b.0 (a.0 r))
   yields_result (suc j) h {s} st x =
       let t = turn_result j h st x in
-      let ih : (c : ℕ) → Yields v l j (chosen v j c s) x ↔ Result G p v.target Codes (Among v j) (Shown (chosen v j c s)) x
+      let ih : (c : ℕ) → Yields v j (chosen v j c s) x ↔ Result G p v.target Codes (Among v j) (Shown (chosen v j c s)) x
       = λ c. yields_result j (planned_less h) (chosen_standing h.ready st c) x in (
-        λ (i, b, y). t.1 (code_of l j i, (h.codes_are j (code_of l j i) (omega arith)).1 (i, b, refl), (ih (code_of l j i)).0 y),
+        λ (i, b, y). t.1 (code_of v j i, (h.codes_are j (code_of v j i) (omega arith)).1 (i, b, refl), (ih (code_of v j i)).0 y),
         λ r.
             let (c, m, q) = t.0 r in
             let (i, b, e) = (h.codes_are j c (omega arith)).0 m in
-            (i, b, subst (λ c. Yields v l j (chosen v j c s) x) (sym e) ((ih c).1 q)),
+            (i, b, subst (λ c. Yields v j (chosen v j c s) x) (sym e) ((ih c).1 q)),
       )

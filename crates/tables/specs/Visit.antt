@@ -1,5 +1,5 @@
 -- A visit of a production: choices of codes for its slots, in turn, and what comes of all of them, step by step as it is worked out.
-use Rattle.std.specs.Prelude.{◌≡◌, ◌⊎◌, Bool, List, Result, OnOk, ℕ, zero, suc, ◌+◌, ◌*◌, ◌≤◌, ◌<◌, eqb, length, get_or, set}
+use Rattle.std.specs.Prelude.{◌≡◌, ◌⊎◌, Bool, List, [], Result, OnOk, ℕ, zero, suc, ◌+◌, ◌≤◌, ◌<◌, eqb, length, get_or, set}
 use Rattle.lists.specs.Pick.{pick}
 use Rattle.lists.specs.Part.{place}
 use Rattle.chains.specs.Limits.{max_settings, max_kids, max_members}
@@ -12,16 +12,19 @@ use Rattle.tables.specs.State.{State, Whole, Readable, width_in, based, tidied}
 use Rattle.tables.specs.Seen.{Stored}
 use Rattle.tables.specs.declared.seen.Level.{Level}
 use Rattle.members.specs.declared.Full.{Full}
-use Rattle.tables.specs.declared.gather.Turn.{Turn}
-use Rattle.tables.specs.declared.gather.Visit.{Visit}
+use Rattle.tables.specs.declared.visit.Turn.{Turn}
+use Rattle.tables.specs.declared.visit.Visit.{Visit}
 
 -- the slots that a production can have, and as many turns
 abbrev pub max_turns : ℕ
 max_turns = suc max_kids
 
--- turn j: its slot, the slot's number of settings and the number of codes
+-- turn j: its slot, the slot's number of settings, the number of codes and these
+abbrev pub no_turn : Turn
+no_turn = record { slot = 0; width = 0; size = 0; codes = [] }
+
 abbrev pub turn_of : Visit → ℕ → Turn
-turn_of v j = get_or v.turns j (record { slot = 0; width = 0; size = 0 })
+turn_of v j = get_or v.turns j no_turn
 
 abbrev pub slot_of : Visit → ℕ → ℕ
 slot_of v j = (turn_of v j).slot
@@ -33,8 +36,8 @@ abbrev pub size_of : Visit → ℕ → ℕ
 size_of v j = (turn_of v j).size
 
 -- the i-th code of turn j
-abbrev pub code_of : List ℕ → ℕ → ℕ → ℕ
-code_of l j i = get_or l (j * max_members + i) 0
+abbrev pub code_of : Visit → ℕ → ℕ → ℕ
+code_of v j i = get_or (turn_of v j).codes i 0
 
 -- slot t dropped from the state s, unless the results are seen on it
 abbrev pub released : ℕ → ℕ → List ℕ → List ℕ
@@ -48,9 +51,9 @@ unfoldable pub chosen : Visit → ℕ → ℕ → List ℕ → List ℕ
 chosen v j c s = tidied (released (slot_of v j) v.target (tied v j c s))
 
 -- x comes of s by some choices for the turns before j
-unfoldable pub Yields : Visit → List ℕ → ℕ → List ℕ → ℕ → Type 0
-Yields v l zero s x = x ≡ code_on v.target v.width s
-Yields v l (suc j) s x = (i : ℕ) × (i < size_of v j) × Yields v l j (chosen v j (code_of l j i) s) x
+unfoldable pub Yields : Visit → ℕ → List ℕ → ℕ → Type 0
+Yields v zero s x = x ≡ code_on v.target v.width s
+Yields v (suc j) s x = (i : ℕ) × (i < size_of v j) × Yields v j (chosen v j (code_of v j i) s) x
 
 -- turns 0 to j - 1 have slots of their own, within the limits
 pub record Ready (v : Visit) (j : ℕ) : Type 0 where
@@ -87,58 +90,59 @@ pub record InOrder (k : ℕ) (s c : List ℕ) : Type 0 where
   pub fine : Fine kinds (Has s c) s c
 
 -- all that comes of a state kept among those seen is in the set
-abbrev pub Done : Visit → List ℕ → List ℕ → List ℕ → ℕ → List ℕ → Type 0
-Done v l s c j u = Gathered v.kind (Yields v l j u) s c
+abbrev pub Done : Visit → List ℕ → List ℕ → ℕ → List ℕ → Type 0
+Done v s c j u = Gathered v.kind (Yields v j u) s c
 
 -- what gathering from the state u asks
-pub record Request (v : Visit) (l : List ℕ) (j : ℕ) (u : List ℕ) (kept : List Level) (s c : List ℕ) : Type 0 where
+pub record Request (v : Visit) (j : ℕ) (u : List ℕ) (kept : List Level) (s c : List ℕ) : Type 0 where
   pub ready : Ready v j
   pub standing : Standing v j u
-  pub lists : length l ≡ max_turns * max_members
   pub order : InOrder v.kind s c
-  pub seen : Stored (Done v l s c) kept
+  pub seen : Stored (Done v s c) kept
 
 -- and what it leaves
-pub record Reply (v : Visit) (l : List ℕ) (j : ℕ) (u s c : List ℕ) (kept' : List Level) (s' c' : List ℕ) (r : Result Bool Full) : Type 0 where
-  pub turned : Gathers v.kind (Yields v l j u) s c s' c' r
-  pub seen : OnOk r (Stored (Done v l s' c') kept')
+pub record Reply (v : Visit) (j : ℕ) (u s c : List ℕ) (kept' : List Level) (s' c' : List ℕ) (r : Result Bool Full) : Type 0 where
+  pub turned : Gathers v.kind (Yields v j u) s c s' c' r
+  pub seen : OnOk r (Stored (Done v s' c') kept')
 
 -- ── a visit made ready, off the production entry at the place at of the book b ──
--- v with turn j given to a slot, and the codes of that slot's kind, off the sets s with the counts c, put into the lists l
-pub record Opened (b : List ℕ) (at : ℕ) (s c : List ℕ) (v : Visit) (j slot : ℕ) (l : List ℕ) (v' : Visit) (l' : List ℕ) : Type 0 where
-  pub turns_now : v'.turns ≡ set v.turns j (record { slot = slot; width = width_in b at slot; size = get_or c (kind_in b at slot) 0 })
+-- v with one turn more, given to a slot, with the codes of that slot's kind, off the sets s with the counts c
+pub record Opened (b : List ℕ) (at : ℕ) (s c : List ℕ) (v : Visit) (slot : ℕ) (v' : Visit) : Type 0 where
+  pub turns_now : v'.turns ≡ set v.turns v.opened
+      (record { slot = slot; width = width_in b at slot; size = get_or c (kind_in b at slot) 0; codes = place 0 (members s c (kind_in b at slot)) (turn_of v v.opened).codes })
+  pub opened_now : v'.opened ≡ v.opened + 1
   pub rest : (v'.target ≡ v.target) × (v'.width ≡ v.width) × (v'.kind ≡ v.kind)
-  pub lists_now : l' ≡ place (j * max_members) (members s c (kind_in b at slot)) l
 
 -- turn i has a slot, with its settings and the codes of its kind
-pub record TurnGiven (b : List ℕ) (at : ℕ) (s c : List ℕ) (v : Visit) (l : List ℕ) (i slot : ℕ) : Type 0 where
+pub record TurnGiven (b : List ℕ) (at : ℕ) (s c : List ℕ) (v : Visit) (i slot : ℕ) : Type 0 where
   pub slot_is : slot_of v i ≡ slot
   pub width_is : width_of v i ≡ width_in b at slot
   pub size_is : size_of v i ≡ get_or c (kind_in b at slot) 0
   pub few : size_of v i ≤ max_members
-  pub codes_are : (r : ℕ) → r < size_of v i → code_of l i r ≡ member s (kind_in b at slot) r
+  pub codes_are : (r : ℕ) → r < size_of v i → code_of v i r ≡ member s (kind_in b at slot) r
 
--- there are places for all turns
-pub record Sized (v : Visit) (l : List ℕ) : Type 0 where
+-- there are places for all turns, and for all codes of each
+pub record Sized (v : Visit) : Type 0 where
   pub turns : length v.turns ≡ max_turns
-  pub lists : length l ≡ max_turns * max_members
+  pub codes : (i : ℕ) → i < max_turns → length (turn_of v i).codes ≡ max_members
 
--- the results are seen on slot t, and turn i, for each i below j, has the slot σ i, with the codes of its kind off the sets S i with the counts C i
-pub record Opening (b : List ℕ) (at t : ℕ) (σ : ℕ → ℕ) (S C : ℕ → List ℕ) (v : Visit) (l : List ℕ) (j : ℕ) : Type 0 where
-  pub sized : Sized v l
+-- the results are seen on slot t, and turn i, for each i of the j that are opened, has the slot σ i, with the codes of its kind off the sets S i with
+-- the counts C i
+pub record Opening (b : List ℕ) (at t : ℕ) (σ : ℕ → ℕ) (S C : ℕ → List ℕ) (v : Visit) (j : ℕ) : Type 0 where
+  pub sized : Sized v
+  pub opened : v.opened ≡ j
   pub target : v.target ≡ t
   pub width : v.width ≡ width_in b at t
   pub kind : v.kind ≡ kind_in b at t
-  pub taken : (i : ℕ) → i < j → TurnGiven b at (S i) (C i) v l i (σ i)
+  pub taken : (i : ℕ) → i < j → TurnGiven b at (S i) (C i) v i (σ i)
 
 -- some turn before j has no code to choose
 abbrev pub Barren : Visit → ℕ → Type 0
 Barren v j = (i : ℕ) × (i < j) × (size_of v i ≡ 0)
 
--- what a visit with n turns asks
-pub record Prepared (b : List ℕ) (at : ℕ) (v : Visit) (n : ℕ) (l s c : List ℕ) : Type 0 where
+-- what a visit asks
+pub record Prepared (b : List ℕ) (at : ℕ) (v : Visit) (s c : List ℕ) : Type 0 where
   pub readable : Readable b at
-  pub ready : Ready v n
-  pub standing : Standing v n (based b at)
-  pub lists : length l ≡ max_turns * max_members
+  pub ready : Ready v v.opened
+  pub standing : Standing v v.opened (based b at)
   pub order : InOrder v.kind s c

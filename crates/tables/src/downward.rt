@@ -12,9 +12,8 @@ ghost use Rattle.tables.specs.Visit.{max_turns, Opened, Opening};
 ghost use Rattle.tables.specs.Sweep.{Attended, Swept, Exact, Outcome};
 ghost use Rattle.tables.specs.Downward.{slot_down, given, DownVisited, DownServed, DownMarks, DownSwept, DownClosed, Seeded};
 
-use super::gather::Visit;
 use super::sets::{MAX_MEMBERS, copy_members};
-use super::visit::{LIST_PLACES, MARKS, looking_at, open_turn, visit};
+use super::visit::{MARKS, Visit};
 use members::Full;
 
 // The slot of turn j in a visit for the child in slot t, which is tied last.
@@ -29,7 +28,7 @@ fn slot_down(t: u8, j: u8) -> u8
 
 // Turn j: the left kind has its feasible groupings to choose from, a child its plausible ones.
 fn open_down(
-    v: Visit,
+    v: &mut Visit,
     j: u8,
     t: u8,
     book: &[u8],
@@ -38,18 +37,17 @@ fn open_down(
     counts: &[u8],
     feasible: &[u32],
     tally: &[u8],
-    lists: &mut [u32],
-) -> Visit
-    requires { (j < max_turns) × (length lists.old ≡ max_turns * max_members)
-        × Placed plausible.now counts.now (kind_in book.now at (slot_down t j)) × Placed feasible.now tally.now (kind_in book.now at (slot_down t j)) }
+)
+    requires { (v.old.opened < max_turns) × Placed plausible.now counts.now (kind_in book.now at (slot_down t j)) × Placed feasible.now tally.now (kind_in book.now at (slot_down t j)) }
     ensures { Opened book.now at (given feasible.now plausible.now (slot_down t j))
-        (given tally.now counts.now (slot_down t j)) v j (slot_down t j) lists.old result lists.new }
+        (given tally.now counts.now (slot_down t j)) v.old (slot_down t j) v.new }
 {
     let slot = slot_down(t, j);
     if slot == 0 {
-        return open_turn(v, j as usize, slot, book, at, feasible, tally, lists);
+        v.open(slot, book, at, feasible, tally);
+    } else {
+        v.open(slot, book, at, plausible, counts);
     }
-    open_turn(v, j as usize, slot, book, at, plausible, counts, lists)
 }
 
 // All slots in turn; the results are seen on the child in slot t.
@@ -61,18 +59,17 @@ fn prepare_down(
     counts: &[u8],
     feasible: &[u32],
     tally: &[u8],
-    lists: &mut [u32],
 ) -> Visit
-    requires { (arity_at book.now at ≤ max_kids) × (t ≤ arity_at book.now at) × (length lists.old ≡ max_turns * max_members)
+    requires { (arity_at book.now at ≤ max_kids) × (t ≤ arity_at book.now at)
         × ((i : ℕ) → i ≤ arity_at book.now at → Placed plausible.now counts.now (kind_in book.now at i))
         × ((i : ℕ) → i ≤ arity_at book.now at → Placed feasible.now tally.now (kind_in book.now at i)) }
     ensures { Opening book.now at t (slot_down t) (λ i. given feasible.now plausible.now (slot_down t i))
-        (λ i. given tally.now counts.now (slot_down t i)) result lists.new (suc (arity_at book.now at)) }
+        (λ i. given tally.now counts.now (slot_down t i)) result (suc (arity_at book.now at)) }
 {
     let n = book::arity(book, at);
-    let mut v = looking_at(book, at, t);
+    let mut v = Visit::looking_at(book, at, t);
     for j in 0..=n {
-        v = open_down(v, j, t, book, at, plausible, counts, feasible, tally, lists);
+        open_down(&mut v, j, t, book, at, plausible, counts, feasible, tally);
     }
     v
 }
@@ -94,17 +91,7 @@ fn visit_down(
         → DownVisited book.now plausible.now counts.now p j
         feasible.old tally.old feasible.new tally.new result }
 {
-    let mut lists = [0u32; LIST_PLACES];
-    let v = prepare_down(book, at, t, plausible, counts, feasible, tally, &mut lists);
-    visit(
-        book,
-        at,
-        v,
-        book::arity(book, at) as usize + 1,
-        &lists,
-        feasible,
-        tally,
-    )
+    prepare_down(book, at, t, plausible, counts, feasible, tally).make(book, at, feasible, tally)
 }
 
 // A visit for each child.

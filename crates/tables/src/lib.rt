@@ -4,7 +4,6 @@
 mod downward;
 mod entry;
 mod fill;
-mod gather;
 mod labels;
 mod making;
 mod seen;

@@ -7,25 +7,24 @@ ghost use Rattle.book.specs.Reading.{kind_in, kid_at, Index};
 ghost use Rattle.bookcheck.specs.Accepted.{Accepted};
 ghost use Rattle.members.specs.Sets.{Has, Placed};
 ghost use Rattle.tables.specs.Memory.{Fine};
-ghost use Rattle.tables.specs.Visit.{max_turns, Opening};
+ghost use Rattle.tables.specs.Visit.{Opening};
 ghost use Rattle.tables.specs.Sweep.{total, Attended, Swept, Outcome};
 ghost use Rattle.tables.specs.Upward.{UpVisited, UpServed, UpMarks, UpSwept, UpClosed};
 
-use super::gather::Visit;
 use super::sets::MAX_MEMBERS;
-use super::visit::{LIST_PLACES, MARKS, looking_at, open_turn, visit};
+use super::visit::{MARKS, Visit};
 use members::Full;
 
 // The children in turn, from the first; the results are seen on the left kind.
-fn prepare_up(book: &[u8], at: usize, sets: &[u32], counts: &[u8], lists: &mut [u32]) -> Visit
-    requires { (arity_at book.now at ≤ max_kids) × (length lists.old ≡ max_turns * max_members)
+fn prepare_up(book: &[u8], at: usize, sets: &[u32], counts: &[u8]) -> Visit
+    requires { (arity_at book.now at ≤ max_kids)
         × ((i : ℕ) → i ≤ arity_at book.now at → Placed sets.now counts.now (kind_in book.now at i)) }
-    ensures { Opening book.now at 0 suc (λ i. sets.now) (λ i. counts.now) result lists.new (arity_at book.now at) }
+    ensures { Opening book.now at 0 suc (λ i. sets.now) (λ i. counts.now) result (arity_at book.now at) }
 {
     let n = book::arity(book, at);
-    let mut v = looking_at(book, at, 0);
+    let mut v = Visit::looking_at(book, at, 0);
     for j in 0..n {
-        v = open_turn(v, j as usize, j + 1, book, at, sets, counts, lists);
+        v.open(j + 1, book, at, sets, counts);
     }
     v
 }
@@ -37,17 +36,7 @@ fn visit_up(book: &[u8], at: usize, sets: &mut [u32], counts: &mut [u8]) -> Resu
     ensures { (p : ℕ) → p < prods book.now → at ≡ entry book.now p
         → UpVisited book.now p sets.old counts.old sets.new counts.new result }
 {
-    let mut lists = [0u32; LIST_PLACES];
-    let v = prepare_up(book, at, sets, counts, &mut lists);
-    visit(
-        book,
-        at,
-        v,
-        book::arity(book, at) as usize,
-        &lists,
-        sets,
-        counts,
-    )
+    prepare_up(book, at, sets, counts).make(book, at, sets, counts)
 }
 
 // One more than the number of members that the children's kinds have together.
@@ -111,12 +100,7 @@ fn sweep_up(
 }
 
 // Sweeps until one adds nothing.
-fn close_up(
-    book: &[u8],
-    places: &[usize],
-    sets: &mut [u32],
-    counts: &mut [u8],
-) -> Result<(), Full>
+fn close_up(book: &[u8], places: &[usize], sets: &mut [u32], counts: &mut [u8]) -> Result<(), Full>
     requires { Accepted book.now × Index book.now places.now × Fine (kinds book.now) (Plausible (grammar book.now)) sets.old counts.old }
     ensures { Swept (kinds book.now) (Plausible (grammar book.now))
         (UpClosed book.now sets.new counts.new)

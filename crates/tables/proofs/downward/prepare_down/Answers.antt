@@ -9,32 +9,26 @@ use native.Mathlib.Omega.{arith}
 use Rattle.tables.proofs.downward.prepare_down.Goals as goal
 
 pub loop-j-init : goal.loop-j-init
-loop-j-init c = (omega arith, c.looking_at-v.ensures _ _ _ _ c.requires.2)
+loop-j-init c = c.looking_at-v.ensures _ _ _
 
-pub open_down-v-requires : goal.open_down-v-requires
-open_down-v-requires c =
-    let h = c.loop-j.invariant in
-    let (few, low, long, s, f) = c.requires in
-    let j = c.loop-j.j in
-    let k = slot_within c.args.t j _ low (omega arith) in
-    (omega arith, h.1.sized.lists, s _ k, f _ k)
+pub open_down-requires : goal.open_down-requires
+open_down-requires c =
+    let (few, low, s, f) = c.requires in
+    let k = slot_within c.args.t c.loop-j.j _ low (omega arith) in
+    (omega (arith, c.loop-j.invariant.opened), s _ k, f _ k)
 
 pub loop-j-preserved : goal.loop-j-preserved
 loop-j-preserved c =
-    let h = c.loop-j.invariant in
-    let (few, low, long, s, f) = c.requires in
-    let j = c.loop-j.j in
-    let k = slot_within c.args.t j _ low (omega arith) in
-    (omega arith, opening_more h.1 (omega arith) refl refl (given_placed (slot_down c.args.t j) (f _ k) (s _ k)) c.open_down-v.ensures)
+    let (few, low, s, f) = c.requires in
+    let k = slot_within c.args.t c.loop-j.j _ low (omega arith) in
+    opening_more c.loop-j.invariant (omega arith) refl (given_placed (slot_down c.args.t c.loop-j.j) (f _ k) (s _ k)) c.open_down.ensures
 
 pub returns : goal.returns
 returns c = absurd (omega arith)
 
 pub returns-2 : goal.returns-2
 returns-2 c =
-    let h = c.loop-j.invariant in
-    let (few, low, long, s, f) = c.requires in
-    let j = c.loop-j.j in
-    let k = slot_within c.args.t j _ low (omega arith) in
+    let (few, low, s, f) = c.requires in
+    let k = slot_within c.args.t c.loop-j.j _ low (omega arith) in
     let e : c.loop-j.j + 1 ≡ suc (arity_at c.args.book.now c.args.at) = omega arith in
-    rw (← e) (opening_more h.1 (omega arith) refl refl (given_placed (slot_down c.args.t j) (f _ k) (s _ k)) c.open_down-v.ensures)
+    rw (← e) (opening_more c.loop-j.invariant (omega arith) refl (given_placed (slot_down c.args.t c.loop-j.j) (f _ k) (s _ k)) c.open_down.ensures)

@@ -1,5 +1,5 @@
 -- What a state says on the slot looked at, put into the set. Assumes nothing.
-use Rattle.tables.proofs.gather.enter.Goals as goal
+use Rattle.tables.proofs.visit.Visit.enter.Goals as goal
 
 pub returns : goal.returns
 returns c = rw (← c.view.ensures) c.put.ensures
