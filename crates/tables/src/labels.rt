@@ -80,14 +80,14 @@ impl Model for Labels {
 
 impl Labels {
     // No occurrence is there.
-    pub fn none() -> Labels
+    pub fn none() -> Self
         ensures { result ≡ replicate labels none }
     {
         Labels { of: [NONE; LABELS] }
     }
 
     // Every occurrence by itself.
-    fn apart(book: &[u8], at: usize) -> Labels
+    fn apart(book: &[u8], at: usize) -> Self
         ensures { result ≡ apart book.now at }
     {
         let mut of = [NONE; LABELS];
@@ -98,7 +98,7 @@ impl Labels {
     }
 
     // The ends of each pair of the entry at `at` joined: the base grouping.
-    pub fn base(book: &[u8], at: usize) -> Labels
+    pub fn base(book: &[u8], at: usize) -> Self
         requires { Readable book.now at }
         ensures { result ≡ based book.now at }
     {
@@ -124,13 +124,13 @@ impl Labels {
         }
     }
 
-    // The first a settings of a slot joined as the code groups them: each with the first one of its label.
-    pub fn tie(&mut self, slot: u8, a: u8, code: u32)
-        requires { (slot ≤ max_kids) × (a ≤ max_settings) }
-        ensures { self.new ≡ joins self.old (code_pairs slot a code) }
+    // The settings of a slot joined as the code groups them: each with the first one of its label.
+    pub fn tie(&mut self, slot: u8, width: u8, code: u32)
+        requires { (slot ≤ max_kids) × (width ≤ max_settings) }
+        ensures { self.new ≡ joins self.old (code_pairs slot width code) }
     {
         let base = slot as usize * SETTINGS;
-        for x in 0..a {
+        for x in 0..width {
             let y = first_alike(code, x);
             self.merge(base + y as usize, base + x as usize);
         }
@@ -164,15 +164,15 @@ impl Labels {
         &self.of
     }
 
-    // The code, by first appearance, of the first a settings of a slot, which are all there.
-    pub fn view(&self, slot: u8, a: u8) -> u32
-        requires { (slot ≤ max_kids) × (a ≤ max_settings) × Whole self.now slot a }
-        ensures { result ≡ code_on slot a self.now }
+    // The code, by first appearance, of a slot's settings, which are all there.
+    pub fn view(&self, slot: u8, width: u8) -> u32
+        requires { (slot ≤ max_kids) × (width ≤ max_settings) × Whole self.now slot width }
+        ensures { result ≡ code_on slot width self.now }
     {
         let base = slot as usize * SETTINGS;
         let mut numbers = Numbers::new();
         let mut code = 0;
-        for (x, &label) in self.of[base..base + a as usize].iter().enumerate() {
+        for (x, &label) in self.of[base..base + width as usize].iter().enumerate() {
             code |= (numbers.of(label) as u32) << (3 * x);
         }
         code
@@ -197,7 +197,7 @@ impl Model for Numbers {
 }
 
 impl Numbers {
-    fn new() -> Numbers
+    fn new() -> Self
         ensures { result ≡ [] }
     {
         Numbers {

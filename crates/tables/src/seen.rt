@@ -31,7 +31,7 @@ fn advanced(counter: u8) -> u8
 
 impl Level {
     // No place is filled.
-    pub fn new() -> Level
+    pub fn new() -> Self
         ensures { result.counter ≡ 0 }
     {
         Level {
@@ -44,7 +44,7 @@ impl Level {
     fn filled(&self) -> usize
         ensures { result ≡ min self.now.counter places }
     {
-        PLACES.min(self.counter as usize)
+        (self.counter as usize).min(PLACES)
     }
 
     // Whether the state s stands here.

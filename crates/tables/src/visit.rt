@@ -35,7 +35,7 @@ impl Visit {
     ghost use Rattle.tables.specs.Visit.{max_turns, Ready, Standing, InOrder, chosen, Yields, Gathers, Request, Reply, Opening, Opened, Barren, Prepared};
 
     // No turn yet, and the results seen on a slot.
-    pub fn looking_at(book: &[u8], at: usize, slot: u8) -> Visit
+    pub fn looking_at(book: &[u8], at: usize, slot: u8) -> Self
         ensures { (S C : ℕ → List ℕ) (σ : ℕ → ℕ) → Opening book.now at slot σ S C result 0 }
     {
         Visit {
@@ -80,11 +80,11 @@ impl Visit {
         requires { Ready self.now (suc j) × (j < max_turns) × Standing self.now (suc j) s.now }
         ensures { result ≡ chosen self.now j code s.now }
     {
-        let slot = self.turns[j].slot;
+        let turn = &self.turns[j];
         let mut t = *s;
-        t.tie(slot, self.turns[j].width, code);
-        if slot != self.target {
-            t.forget(slot);
+        t.tie(turn.slot, turn.width, code);
+        if turn.slot != self.target {
+            t.forget(turn.slot);
         }
         t.tidy();
         t
@@ -123,8 +123,9 @@ impl Visit {
             return Ok(false);
         }
         let k = j - 1;
+        let turn = &self.turns[k];
         let mut added = false;
-        for &code in &self.turns[k].codes[..self.turns[k].size as usize] {
+        for &code in &turn.codes[..turn.size as usize] {
             let t = self.choose(k, code, s);
             added |= self.gather(k, &t, seen, sets, counts)?;
         }
