@@ -1,5 +1,5 @@
 -- From the check of the book to the end of a build.
-use mathlib.Core.Path.{◌≡◌, refl, ◌∙◌}
+use mathlib.Core.Path.{◌≡◌, refl, sym, ap, ◌∙◌, subst}
 use mathlib.Core.Logic.{inl, inr}
 use mathlib.Core.Bool.{Bool, true, false}
 use mathlib.Core.List.{List, [], ◌∷◌}
@@ -7,23 +7,24 @@ use Prim.Native.Nat.{ℕ, ◌≤◌, ◌<◌}
 use native.Mathlib.Omega.{arith}
 use borrow.Author.Tests.{lt-ltb, le-ltb}
 use lib.ListN.{length}
+use Rattle.std.specs.Prelude.{Result, Ok, Err, is_err}
+use Rattle.lists.specs.Pick.{pick}
 use Rattle.lists.specs.Refusals.{accepted, refused, Sooner, First}
 use Rattle.book.specs.Format.{kinds}
 use Rattle.bookcheck.specs.Refusals as rows
 use Rattle.bookcheck.proofs.Rows.{row_of_book}
-use Rattle.bookcheck.specs.declared.Checked.{Checked}
-use Rattle.bookcheck.specs.declared.Checked.TheVariants as checks
-use Rattle.bookcheck.specs.Answer as checked
 use Rattle.bookcheck.proofs.Accepted.{accepted_book}
-use Rattle.tables.specs.declared.Built.TheVariants.{Refused}
-use Rattle.tables.specs.Promise.{Lent, Applies, of_book, short_slice, over_plausible, over_feasible, short_up, short_down, wiped, left_by, BuildDue}
+use Rattle.refusals.specs.declared.Refused.{Refused}
+use Rattle.refusals.specs.Table.{number_of}
+use Rattle.tables.specs.declared.Counts.{Counts}
+use Rattle.tables.specs.Promise.{Lent, zeros, Applies, of_book, short_slice, over_plausible, over_feasible, short_up, short_down, wiped, left_by, BuildDue}
 use Rattle.tables.specs.Answer.{said, lent}
 use Rattle.members.specs.Room.{Roomy, Measured}
-use Rattle.tables.specs.Making.{Lacking, Ready, WorkDue}
+use Rattle.tables.specs.Making.{Lacking, Ready, Worked}
 use Rattle.tables.proofs.Exits.{FirstDue, refuse_room}
 
 -- ── the memory ──
-pub lents : (s c f d u w s' c' f' d' u' w' : List ℕ) → s ≡ s' → c ≡ c' → f ≡ f' → d ≡ d' → u ≡ u' → w ≡ w' → lent s c f d u w ≡ lent s' c' f' d' u' w'
+lents : (s c f d u w s' c' f' d' u' w' : List ℕ) → s ≡ s' → c ≡ c' → f ≡ f' → d ≡ d' → u ≡ u' → w ≡ w' → lent s c f d u w ≡ lent s' c' f' d' u' w'
 lents s c f d u w s' c' f' d' u' w' e₁ e₂ e₃ e₄ e₅ e₆ = rw (e₁, e₂, e₃, e₄, e₅, e₆) refl
 
 -- lengths are all that wiping looks at
@@ -77,26 +78,30 @@ module _ {b : List ℕ} {x y : ℕ} (due : rows.BookDue b (accepted (x ∷ y ∷
   ready_book m r = record { book = (accepted_book b x y due).0; clean = clean_book; room = r }
 
 -- ── the build goes on ──
--- THEOREM: a refusal after the sets are begun leaves all memory wiped
-pub refused_wiped : (b : List ℕ) (m m' m'' : Lent) (n p : ℕ) → WorkDue b m (refused n p) m' → wiped m' ≡ wiped m → m'' ≡ wiped m' → BuildDue b m (refused n p) m''
-refused_wiped b m m' m'' n p (f, l) e e' = (f, e' ∙ e ∙ left_late n m l)
+-- THEOREM: what is said of the book that is refused
+pub built_of_book : (b : List ℕ) (m : Lent) (r : Refused) → rows.BookDue b (refused (number_of r.refusal) r.place) → BuildDue b m (said (Err r)) m
+built_of_book b m r = refused_book b m (number_of r.refusal) r.place
 
--- ── the answer of the check, taken apart ──
-module _ (b : List ℕ) (m : Lent) (r : Checked) (due : rows.BookDue b (checked.said r)) where
-  pub built_of_book : (n p : ℕ) → r ≡ checks.Refused n p → BuildDue b m (said (Refused n p)) m
-  built_of_book n p e = refused_book b m n p (rw e at due)
+-- the kinds, measured against the lent memory
+module _ {b : List ℕ} (m : Lent) {x y : ℕ} (due : rows.BookDue b (accepted (x ∷ y ∷ []))) {short : Bool}
+    (size : Measured x (length m.plausible) (length m.plausible_counts) (length m.feasible) (length m.feasible_counts) short) where
+  sized : Measured (kinds b) (length m.plausible) (length m.plausible_counts) (length m.feasible) (length m.feasible_counts) short
+  sized = rw (kinds_told due) at size
 
-  -- the kinds, measured against the lent memory
-  module _ (x y : ℕ) (e : r ≡ checks.Accepted x y) (short : Bool)
-      (size : Measured x (length m.plausible) (length m.plausible_counts) (length m.feasible) (length m.feasible_counts) short) where
-    accepted_due : rows.BookDue b (accepted (x ∷ y ∷ []))
-    accepted_due = rw e at due
+  pub built_short : short ≡ true → BuildDue b m (refused 9 0) m
+  built_short h = refused_room due m (sized.short h)
 
-    sized : Measured (kinds b) (length m.plausible) (length m.plausible_counts) (length m.feasible) (length m.feasible_counts) short
-    sized = rw (kinds_told accepted_due) at size
+  pub built_ready : short ≡ false → Ready b m
+  built_ready h = ready_book due m (sized.roomy h)
 
-    pub built_short : short ≡ true → BuildDue b m (refused 9 0) m
-    built_short h = refused_room accepted_due m (sized.short h)
+-- what is left of the lent memory, wiped or not
+pub left : (q : Bool) (s c f d u w s' c' f' d' u' w' : List ℕ) → s' ≡ pick q (zeros s) s → c' ≡ pick q (zeros c) c → f' ≡ pick q (zeros f) f → d' ≡ pick q (zeros d) d
+    → u' ≡ pick q (zeros u) u → w' ≡ pick q (zeros w) w → lent s' c' f' d' u' w' ≡ pick q (wiped (lent s c f d u w)) (lent s c f d u w)
+left true s c f d u w s' c' f' d' u' w' = lents s' c' f' d' u' w' (zeros s) (zeros c) (zeros f) (zeros d) (zeros u) (zeros w)
+left false s c f d u w s' c' f' d' u' w' = lents s' c' f' d' u' w' s c f d u w
 
-    pub built_ready : short ≡ false → Ready b m
-    built_ready h = ready_book accepted_due m (sized.roomy h)
+-- THEOREM: what the work came to is what the build comes to, once a refusal's memory is wiped
+pub built : (b : List ℕ) (m m' m'' : Lent) (r : Result Counts Refused) (q : Bool) → Worked b m (said r) m' → q ≡ is_err r → wiped m' ≡ wiped m → m'' ≡ pick q (wiped m') m'
+    → BuildDue b m (said r) m''
+built b m m' m'' (Ok n) q k e z l = subst (λ x. BuildDue b m (said (Ok n)) x) (sym (l ∙ ap (λ t. pick t (wiped m') m') e)) k.due
+built b m m' m'' (Err r) q k e z l = (k.due.0, l ∙ ap (λ t. pick t (wiped m') m') e ∙ z ∙ left_late (number_of r.refusal) m k.due.1)

@@ -1,99 +1,115 @@
 -- The numbers of entries, worked out child by child and production by production.
 use mathlib.Core.Path.{◌≡◌, sym, ap, ap₂, ◌∙◌}
 use mathlib.Core.List.{List}
-use Prim.Native.Nat.{ℕ, suc, ◌+◌, ◌-◌, ◌*◌, ◌^◌, ◌≤◌, ◌<◌}
-use native.Mathlib.Nat.{mul-le-mul, pow-le-pow_right}
+use Prim.Native.Nat.{ℕ, suc, ◌+◌, ◌*◌, ◌^◌, ◌≤◌, ◌<◌}
+use native.Mathlib.Nat.{mul-le-mul, mul_assoc, mul-one, one-mul, pow-suc, pow-le-pow_right}
 use native.Mathlib.Numerals.{add-one}
 use native.Mathlib.Omega.{arith}
-use lib.ListN.{length, get_or}
+use lib.ListN.{length, get_or, take}
+use lib.Seq.{length-take-le, get_or-take}
 use Rattle.chains.specs.Limits.{max_kids, max_members, max_prods}
 use Rattle.book.specs.Format.{kinds, prods, entry, grammar}
-use Rattle.book.specs.Reading.{told}
+use Rattle.book.specs.Reading.{told, Index}
+use Rattle.bookcheck.specs.Accepted.{Accepted}
 use Rattle.bookcheck.proofs.Accepted.{told_prods, place_read}
 use Rattle.ranks.specs.Entries.{choices, up_start, down_start}
 use Rattle.ranks.proofs.Numbers.{choices_few, up_start_few, down_start_few}
 use Rattle.tables.specs.Memory.{Fine}
 use Rattle.tables.specs.State.{Readable, based}
-use Rattle.tables.specs.Shape.{kind_of, kinds_from, ShapeAt, Opened, Small, Countable}
+use Rattle.tables.specs.Shape.{no_slot, kind_of, kinds_from, shape_at, shape_of, base_of, ShapeAt, Opened, Small, Countable}
+use Rattle.tables.specs.declared.shape.Slot.{Slot}
 use Rattle.tables.specs.declared.shape.Shape.{Shape}
 use Rattle.tables.proofs.StateBase.{readable}
-use Rattle.tables.proofs.Shapes.{kinds_step, kinds_none, few_choices, kind_is, kids_are, countable}
+use Rattle.tables.proofs.Shapes.{shape_read, kinds_step, kinds_none, few_choices, kind_is, kids_are, countable}
 
 -- sets in order have small counts
 pub fine_small : {b : List ℕ} {P : ℕ → ℕ → Type 0} {s c : List ℕ} → Fine (kinds b) P s c → Small b c
 fine_small f = record { here = f.here; few = f.few }
 
--- ── a production's choices ──
--- x is the number of choices for the slots behind t
-pub record Multiplying (v : Shape) (c : List ℕ) (x t : ℕ) : Type 0 where
-  pub within : t ≤ v.arity
-  pub held : x ≡ choices c (kinds_from v (suc t))
+-- ── a production at its place ──
+module _ {b places : List ℕ} (o : Opened b places) {p : ℕ} (l : p < length places) where
+  pub opened_below : p < prods b
+  opened_below = rw (← o.many) l
 
-pub none_chosen : {v : Shape} {c : List ℕ} {t : ℕ} → t ≡ v.arity → Multiplying v c 1 t
-unfolding choices
-none_chosen {v} {c} {t} e = record { within = omega arith; held = sym (ap (choices c) (kinds_none v (suc t) (omega arith))) }
-
-module _ {v : Shape} {c : List ℕ} {x t : ℕ} (h : Multiplying v c x t) where
-  -- slot t's kind has so many members
-  one_more : get_or c (kind_of v t) 0 * x ≡ choices c (kinds_from v t)
-  unfolding choices
-  one_more = ap (λ (y : ℕ). get_or c (kind_of v t) 0 * y) h.held ∙ sym (ap (choices c) (kinds_step v t h.within))
-
-  pub choose_fits : Countable v c → 0 < t → get_or c (kind_of v t) 0 * x ≤ max_members ^ max_kids
-  choose_fits few l = rw one_more (few_choices few t l)
-
-  pub choose_turn : 0 < t → Multiplying v c (get_or c (kind_of v t) 0 * x) (t - 1)
-  choose_turn l =
-      let s : suc (t - 1) ≡ t = omega arith in
-      record { within = omega (arith, h.within); held = one_more ∙ ap (λ (i : ℕ). choices c (kinds_from v i)) (sym s) }
-
-  pub choose_done : Countable v c → t ≤ 0 → (x ≡ choices c (kinds_from v 1)) × (x ≤ max_members ^ max_kids)
-  choose_done few l =
-      let e : suc t ≡ 1 = omega arith in
-      let q : x ≡ choices c (kinds_from v 1) = h.held ∙ ap (λ (i : ℕ). choices c (kinds_from v i)) e in
-      (q, rw q (few_choices few 1 (omega arith)))
-
--- and the feasible groupings of its left kind, of which each has all of them
-pub choose_down : {v : Shape} {d : List ℕ} {x : ℕ} → Countable v d → x ≤ max_members ^ max_kids → get_or d (kind_of v 0) 0 * x ≤ max_members ^ (1 + max_kids)
-choose_down {v} {d} {x} h l =
-    let w : get_or d (kind_of v 0) 0 * x ≤ max_members * max_members ^ max_kids = mul-le-mul (h.few 0 (omega arith)) l in
-    omega arith
-
--- ── all productions ──
--- x is the number of entries of the first p of n productions, which are the book's; start counts them
-pub record Summing (b : List ℕ) (start : ℕ → ℕ) (n x p : ℕ) : Type 0 where
-  pub all : n ≡ prods b
-  pub within : p ≤ n
-  pub sum : x ≡ start p
-
-pub sum_begun : {b places : List ℕ} (start : ℕ → ℕ) {n m : ℕ} → Opened b places → start 0 ≡ 0 → n ≡ m → m ≡ told b 2 → Summing b start n 0 0
-sum_begun start o z e e' = record { all = e ∙ e' ∙ told_prods o.book; within = omega arith; sum = sym z }
-
-pub sum_done : {b : List ℕ} {start : ℕ → ℕ} {n x p : ℕ} → Summing b start n x p → n ≤ p → x ≡ start (prods b)
-sum_done {b} {start} {p = p} h l = h.sum ∙ ap start (let e : p ≡ prods b = omega (arith, h.all, h.within) in e)
-
-module _ {b places : List ℕ} (o : Opened b places) (p : ℕ) (l : p < prods b) where
   pub opened_place : get_or places p 0 ≡ entry b p
-  opened_place = place_read o.book o.index p l
+  opened_place = o.each p opened_below
 
   pub opened_readable : Readable b (get_or places p 0)
-  opened_readable = rw opened_place (readable o.book p l)
+  opened_readable = rw opened_place (readable o.book p opened_below)
 
-  pub opened_base : {x : List ℕ} → x ≡ based b (get_or places p 0) → x ≡ based b (entry b p)
+  pub opened_base : {x : List ℕ} → x ≡ based b (get_or places p 0) → x ≡ base_of b p
   opened_base e = e ∙ ap (based b) opened_place
 
-module _ {b places : List ℕ} (o : Opened b places) (p : ℕ) (l : p < prods b) {v : Shape} (h : ShapeAt b (get_or places p 0) v) where
-  pub opened_shape : ShapeAt b (entry b p) v
-  opened_shape = rw (← opened_place o p l) h
+  pub opened_shape : {v : Shape} → v ≡ shape_at b (get_or places p 0) → v ≡ shape_of b p
+  opened_shape e = e ∙ ap (shape_at b) opened_place
+
+-- the places that a book's index has for its productions
+pub opened_by : {b index : List ℕ} {n : ℕ} → Accepted b → Index b index → n ≡ told b 2 → Opened b (take n index)
+opened_by {b} {index} {n} a x e =
+    let m : n ≡ prods b = e ∙ told_prods a in
+    record {
+      book = a;
+      many = length-take-le n index (omega (arith, a.few_prods, x.long)) ∙ m;
+      each = λ p l. get_or-take n index p 0 (omega arith) ∙ place_read a x p l;
+    }
+
+-- ── a production's choices ──
+-- x is the number of choices for the first i children; so many times those for the rest is the number of all
+pub record Multiplying (v : Shape) (c : List ℕ) (x i : ℕ) : Type 0 where
+  pub few : x ≤ max_members ^ i
+  pub held : x * choices c (kinds_from v (suc i)) ≡ choices c (kinds_from v 1)
+
+pub none_chosen : (v : Shape) (c : List ℕ) → Multiplying v c 1 0
+none_chosen v c = record { few = omega arith; held = one-mul _ }
+
+module _ {v : Shape} {c : List ℕ} (small : Countable v c) {x i : ℕ} (h : Multiplying v c x i) where
+  -- child i's slot is q
+  module _ (l : i < v.arity) {q : Slot} (e : q ≡ get_or v.slots (suc i) no_slot) where
+    pub choose_here : q.kind < length c
+    choose_here = rw e (small.here (suc i) l)
+
+    abbrev n : ℕ
+    n = get_or c q.kind 0
+
+    more : x * n ≤ max_members ^ suc i
+    more =
+        let f : n ≤ max_members = rw e (small.few (suc i) l) in
+        let w : x * n ≤ max_members ^ i * max_members = mul-le-mul h.few f in
+        omega (arith, pow-suc max_members i)
+
+    pub choose_fits : x * n ≤ max_members ^ max_kids
+    choose_fits =
+        let p = pow-le-pow_right {n = max_members} (omega arith) {i = suc i} {j = max_kids} (omega (arith, small.arity)) in
+        omega (arith, more)
+
+    pub choose_turn : Multiplying v c (x * n) (i + 1)
+    unfolding choices
+    choose_turn =
+        let ks = kinds_from v (suc (suc i)) in
+        let s : n * choices c ks ≡ choices c (kinds_from v (suc i))
+        = ap (λ (q : Slot). get_or c q.kind 0 * choices c ks) e ∙ sym (ap (choices c) (kinds_step v (suc i) l)) in
+        rw (add-one i) (record { few = more; held = mul_assoc x n (choices c ks) ∙ ap (λ (m : ℕ). x * m) s ∙ h.held })
+
+  pub choose_done : v.arity ≤ i → (x ≡ choices c (kinds_from v 1)) × (x ≤ max_members ^ max_kids)
+  unfolding choices
+  choose_done l =
+      let e : x ≡ choices c (kinds_from v 1)
+      = sym (mul-one x) ∙ ap (λ (m : ℕ). x * m) (sym (ap (choices c) (kinds_none v (suc i) (omega arith)))) ∙ h.held in
+      (e, rw e (few_choices small 1 (omega arith)))
+
+-- ── all productions ──
+module _ {b places : List ℕ} (o : Opened b places) {p : ℕ} (l : p < length places) {v : Shape} (e : v ≡ shape_at b (get_or places p 0)) where
+  shape_here : ShapeAt b (entry b p) v
+  shape_here = shape_read (opened_shape o l e)
 
   pub opened_countable : {c : List ℕ} → Small b c → Countable v c
-  opened_countable s = countable o.book p l opened_shape s
+  opened_countable s = countable o.book p (opened_below o l) shape_here s
 
-  pub opened_choices : (c : List ℕ) → choices c (kinds_from v 1) ≡ choices c ((grammar b).kids p)
-  opened_choices c = ap (choices c) (kids_are o.book p l opened_shape)
+  opened_choices : (c : List ℕ) → choices c (kinds_from v 1) ≡ choices c ((grammar b).kids p)
+  opened_choices c = ap (choices c) (kids_are o.book p (opened_below o l) shape_here)
 
-  pub opened_left : kind_of v 0 ≡ (grammar b).left p
-  opened_left = kind_is o.book p l opened_shape 0 (omega arith)
+  opened_left : kind_of v 0 ≡ (grammar b).left p
+  opened_left = kind_is o.book p (opened_below o l) shape_here 0 (omega arith)
 
 module _ {b places : List ℕ} (o : Opened b places) {c : List ℕ} (s : Small b c) where
   choices_low : (p : ℕ) → p < prods b → choices c ((grammar b).kids p) ≤ max_members ^ max_kids
@@ -120,29 +136,23 @@ module _ {b places : List ℕ} (o : Opened b places) {c : List ℕ} (s : Small b
           omega arith
 
   -- ── production by production ──
-  module _ {n x p : ℕ} (l : p < n) {v : Shape} (h : ShapeAt b (get_or places p 0) v) where
-    module _ (t : Summing b (up_start (grammar b) c) n x p) {y : ℕ} (e : y ≡ choices c (kinds_from v 1)) where
-      up_sum : x + y ≡ up_start (grammar b) c (p + 1)
+  module _ {p : ℕ} (l : p < length places) {v : Shape} (e : v ≡ shape_at b (get_or places p 0)) {x : ℕ} where
+    -- the next one's choices are added
+    module _ {y : ℕ} (m : y ≡ choices c (kinds_from v 1)) (t : x ≡ up_start (grammar b) c p) where
+      pub up_sum : x + y ≡ up_start (grammar b) c (p + 1)
       unfolding up_start
-      up_sum = ap₂ ◌+◌ t.sum (e ∙ opened_choices o p (omega (arith, t.all)) h c) ∙ ap (up_start (grammar b) c) (sym (add-one p))
+      up_sum = ap₂ ◌+◌ t (m ∙ opened_choices o l e c) ∙ ap (up_start (grammar b) c) (sym (add-one p))
 
       pub up_fits : x + y ≤ max_prods * max_members ^ max_kids
-      up_fits = rw up_sum (up_few (p + 1) (omega (arith, t.all)))
+      up_fits = rw up_sum (up_few (p + 1) (let b = opened_below o l in omega arith))
 
-      pub up_turn : Summing b (up_start (grammar b) c) n (x + y) (p + 1)
-      up_turn = record { all = t.all; within = omega arith; sum = up_sum }
-
-    module _ {d : List ℕ} (few : Small b d) (t : Summing b (down_start (grammar b) c d) n x p)
-        {m y : ℕ} (g : m ≡ choices c (kinds_from v 1)) (e : y ≡ get_or d (kind_of v 0) 0 * m) where
-      down_sum : x + y ≡ down_start (grammar b) c d (p + 1)
+    module _ {d : List ℕ} (few : Small b d) {y : ℕ} (m : y ≡ choices c (kinds_from v 1)) {z k : ℕ} (q : k ≡ kind_of v 0) (r : z ≡ get_or d k 0 * y)
+        (t : x ≡ down_start (grammar b) c d p) where
+      pub down_sum : x + z ≡ down_start (grammar b) c d (p + 1)
       unfolding down_start
       down_sum =
-          let z : p < prods b = omega (arith, t.all) in
-          let k : get_or d (kind_of v 0) 0 ≡ get_or d ((grammar b).left p) 0 = ap (λ (k : ℕ). get_or d k 0) (opened_left o p z h) in
-          ap₂ ◌+◌ t.sum (e ∙ ap₂ ◌*◌ k (g ∙ opened_choices o p z h c)) ∙ ap (down_start (grammar b) c d) (sym (add-one p))
+          let n : get_or d k 0 ≡ get_or d ((grammar b).left p) 0 = ap (λ (k : ℕ). get_or d k 0) (q ∙ opened_left o l e) in
+          ap₂ ◌+◌ t (r ∙ ap₂ ◌*◌ n (m ∙ opened_choices o l e c)) ∙ ap (down_start (grammar b) c d) (sym (add-one p))
 
-      pub down_fits : x + y ≤ max_prods * max_members ^ (1 + max_kids)
-      down_fits = rw down_sum (down_few few (p + 1) (omega (arith, t.all)))
-
-      pub down_turn : Summing b (down_start (grammar b) c d) n (x + y) (p + 1)
-      down_turn = record { all = t.all; within = omega arith; sum = down_sum }
+      pub down_fits : x + z ≤ max_prods * max_members ^ (1 + max_kids)
+      down_fits = rw down_sum (down_few few (p + 1) (let b = opened_below o l in omega arith))

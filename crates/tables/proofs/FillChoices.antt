@@ -3,213 +3,190 @@ use mathlib.Core.Path.{◌≡◌, sym, ap, ◌∙◌, subst}
 use mathlib.Core.List.{List, [], ◌∷◌}
 use Prim.Native.Nat.{ℕ, suc, ◌+◌, ◌-◌, ◌*◌, ◌≤◌, ◌<◌}
 use native.Mathlib.Nat.{one-mul}
-use native.Mathlib.Numerals.{add-one}
 use native.Mathlib.Omega.{arith}
 use lib.ListN.{length, get_or}
-use Rattle.chains.specs.Limits.{max_kids, max_members}
-use Rattle.ranks.specs.Entries.{Ranks, choices, choice, entry_bytes}
+use Rattle.chains.specs.Limits.{max_members}
+use Rattle.lists.proofs.Parts.{get_d_part}
+use Rattle.ranks.specs.Entries.{Ranks, choices, choice}
 use Rattle.std.proofs.lemmas.Nat.{same_from_place}
 use Rattle.ranks.proofs.Numbers.{choice_below}
-use Rattle.members.specs.Sets.{member}
+use Rattle.members.specs.Sets.{Placed, member, members}
+use Rattle.members.proofs.Ranked.{members_long}
 use Rattle.tables.specs.Entries.{picked}
 use Rattle.tables.specs.State.{spot}
-use Rattle.tables.specs.Shape.{kind_of, width_of, kinds_from, first_of, Sized, AllPlaced}
-use Rattle.tables.specs.Fill.{Ready, tied_once, tied, InPlace, Entry, entry_size, Rankable, EntriesLaid, chosen, Choices, Asked, AllChoices, AllAsked}
+use Rattle.tables.specs.Shape.{kind_of, width_of, kinds_from, first_of}
+use Rattle.tables.specs.Fill.{Ready, tied_once, tied, EntriesLaid, chosen, Choices, ChoicesLaid, Choosable, joined_left, left_many, AllChoices, AllChoosable}
 use Rattle.tables.specs.declared.shape.Shape.{Shape}
-use Rattle.tables.specs.declared.entry.Table.{Table}
-use Rattle.tables.specs.declared.entry.Table.TheVariants.{Down}
 use Rattle.tables.proofs.State.{tie_means}
 use Rattle.tables.proofs.Shapes.{all_open, kinds_step, kinds_none}
 use Rattle.tables.proofs.FillRuns.{Behind, laid_map, laid_count, Blocks, blocks_begun, blocks_room, blocks_next, blocks_done}
 
 -- ── a slot ──
-pub slot_counted : {v : Shape} {slot : ℕ} {s c : List ℕ} → Sized v → AllPlaced v s c → slot ≤ v.arity → (v.arity ≤ max_kids) × (slot ≤ v.arity) × (kind_of v slot < length c)
-slot_counted {slot = slot} z p l = (z.arity, l, (p slot l).here)
-
 -- a slot tied leaves a state, with the settings of every slot
-pub tie_ready : {v : Shape} {x : List ℕ} → Sized v → Ready v x → (t y : ℕ) → t ≤ v.arity → Ready v (tied_once v t y x)
-tie_ready {v} {x} z h t y l =
-    let m = tie_means h.state t (width_of v t) y (z.widths t l) (h.whole t l) in
-    record { state = m.state; whole = λ u k i b. (m.present (spot u i)).1 (h.whole u k i b) }
+pub tie_ready : {v : Shape} {x : List ℕ} → Ready v x → (t y : ℕ) → t ≤ v.arity → Ready v (tied_once v t y x)
+tie_ready {v} {x} h t y l =
+    let m = tie_means h.state t (width_of v t) y (h.sized.widths t l) (h.whole t l) in
+    record { sized = h.sized; state = m.state; whole = λ u k i b. (m.present (spot u i)).1 (h.whole u k i b) }
 
-module _ (table : Table) (v : Shape) (t : ℕ) (s c f d : List ℕ) where
+-- the members of a slot's kind, as a loop goes over them
+module _ {s c l : List ℕ} {k : ℕ} (v : Shape) (t : ℕ) (p : Placed s c (kind_of v t)) (e : k ≡ kind_of v t) (q : l ≡ members s c k) where
+  pub slot_long : length l ≡ get_or c (kind_of v t) 0
+  slot_long = ap length q ∙ ap (λ (k : ℕ). length (members s c k)) e ∙ members_long p
+
+  -- the r-th of them tied
+  pub slot_tied : {r : ℕ} → r < length l → (x : List ℕ) {y : List ℕ} → y ≡ tied_once v t (get_or l r 0) x
+      → (r < get_or c (kind_of v t) 0) × (y ≡ tied_once v t (member s (kind_of v t) r) x)
+  slot_tied {r} h x w =
+      let b : r < get_or c (kind_of v t) 0 = omega (arith, slot_long) in
+      let m : get_or l r 0 ≡ member s (kind_of v t) r
+      = ap (λ (l : List ℕ). get_or l r 0) (q ∙ ap (members s c) e) ∙ get_d_part (kind_of v t * max_members) (get_or c (kind_of v t) 0) s r 0 b in
+      (b, w ∙ ap (λ (z : ℕ). tied_once v t z x) m)
+
+module _ (v : Shape) (t : ℕ) (s c : List ℕ) where
   -- ── no slot is left ──
   -- the choices for no kinds: one, and it ties nothing
-  none_rankable : (x ks : List ℕ) → ks ≡ [] → ((rs : List ℕ) → Ranks c ks rs → Rankable table s c f d v (chosen v t s ks rs x)) → Rankable table s c f d v x
+  none_asked : (A : List ℕ → Type 0) (x ks : List ℕ) → ks ≡ [] → ((rs : List ℕ) → Ranks c ks rs → A (chosen v t s ks rs x)) → A x
   unfolding picked tied
-  none_rankable x ks e h = subst (λ ks. (rs : List ℕ) → Ranks c ks rs → Rankable table s c f d v (chosen v t s ks rs x)) e h [] tt
+  none_asked A x ks e h = subst (λ ks. (rs : List ℕ) → Ranks c ks rs → A (chosen v t s ks rs x)) e h [] tt
 
   none_count : (ks : List ℕ) → ks ≡ [] → choices c ks ≡ 1
   unfolding choices
   none_count ks e = ap (choices c) e
 
-  none_laid : (x : List ℕ) {ks out : List ℕ} {a : ℕ} {out' : List ℕ} {z : ℕ} → ks ≡ [] → EntriesLaid (entry_size table) 1 (λ i e. Entry table s c f d v x e) out a out' z
-      → EntriesLaid (entry_size table) (choices c ks) (Choices table v t s c f d ks x) out a out' z
+  none_laid : (P : List ℕ → List ℕ → Type 0) (x : List ℕ) {w : ℕ} {ks out : List ℕ} {a : ℕ} {out' : List ℕ} {z : ℕ} → ks ≡ []
+      → EntriesLaid w 1 (λ i e. P x e) out a out' z → EntriesLaid w (choices c ks) (Choices P v t s c ks x) out a out' z
   unfolding picked tied choices
-  none_laid x {ks} {out} {a} {out'} {z} e h =
-      subst (λ ks. EntriesLaid (entry_size table) (choices c ks) (Choices table v t s c f d ks x) out a out' z) (sym e) (laid_map h (λ i l b q rs r n. q))
+  none_laid P x {w} {ks} {out} {a} {out'} {z} e h =
+      subst (λ ks. EntriesLaid w (choices c ks) (Choices P v t s c ks x) out a out' z) (sym e) (laid_map h (λ i l b q rs r n. q))
 
   -- ── the ranks of a slot, whose kind is k; ks are the kinds behind it ──
   -- the entries of rank r stand behind those of the ranks before it
-  rank_behind : (x : List ℕ) (k : ℕ) (ks : List ℕ) (r : ℕ)
-      → Behind (r * choices c ks) (choices c ks) (Choices table v t s c f d (k ∷ ks) x) (Choices table v (suc t) s c f d ks (tied_once v t (member s k r) x))
+  rank_behind : (P : List ℕ → List ℕ → Type 0) (x : List ℕ) (k : ℕ) (ks : List ℕ) (r : ℕ)
+      → Behind (r * choices c ks) (choices c ks) (Choices P v t s c (k ∷ ks) x) (Choices P v (suc t) s c ks (tied_once v t (member s k r) x))
   unfolding picked tied choice
-  rank_behind x k ks r i l b q [] h e = absurd h
-  rank_behind x k ks r i l b q (u ∷ rs) h e =
+  rank_behind P x k ks r i l b q [] h e = absurd h
+  rank_behind P x k ks r i l b q (u ∷ rs) h e =
       let (first, rest) = same_from_place u (choice c ks rs) r i (choices c ks) (choice_below c ks rs h.1) l e in
-      subst (λ u. Entry table s c f d v (tied v (suc t) (picked s ks rs) (tied_once v t (member s k u) x)) b) (sym first) (q rs h.1 rest)
+      subst (λ u. P (tied v (suc t) (picked s ks rs) (tied_once v t (member s k u) x)) b) (sym first) (q rs h.1 rest)
 
-  rank_rankable : (x : List ℕ) (k : ℕ) (ks : List ℕ) (r : ℕ) → r < get_or c k 0 → ((rs : List ℕ) → Ranks c (k ∷ ks) rs → Rankable table s c f d v (chosen v t s (k ∷ ks) rs x))
-      → (rs : List ℕ) → Ranks c ks rs → Rankable table s c f d v (chosen v (suc t) s ks rs (tied_once v t (member s k r) x))
+  rank_asked : (A : List ℕ → Type 0) (x : List ℕ) (k : ℕ) (ks : List ℕ) (r : ℕ) → r < get_or c k 0 → ((rs : List ℕ) → Ranks c (k ∷ ks) rs → A (chosen v t s (k ∷ ks) rs x))
+      → (rs : List ℕ) → Ranks c ks rs → A (chosen v (suc t) s ks rs (tied_once v t (member s k r) x))
   unfolding picked tied
-  rank_rankable x k ks r l h rs m = h (r ∷ rs) (l, m)
+  rank_asked A x k ks r l h rs m = h (r ∷ rs) (l, m)
 
-module _ {table : Table} {v : Shape} {t : ℕ} {s c f d x out : List ℕ} {a : ℕ} (h : Asked table v t s c f d x out a) where
+module _ {A : List ℕ → Type 0} {v : Shape} {t : ℕ} {s c x : List ℕ} (h : Choosable A v t s c x) where
   -- ── the last slot is tied ──
   module _ (l : v.arity < t) where
-    pub leaf_asks : InPlace s c v x × InPlace f d v x × Rankable table s c f d v x × (a + entry_size table ≤ length out)
-    leaf_asks =
-        let e = kinds_none v t l in
-        let n = none_count table v t s c f d (kinds_from v t) e in
-        let g : a + 1 * entry_size table ≤ length out = rw n at h.room in
-        let w = h.standing in
-        (record { sized = w.sized; placed = h.choose; ready = w.ready }, w, none_rankable table v t s c f d x (kinds_from v t) e h.rankable, omega (arith, one-mul (entry_size table)))
+    none_left_asks : A x
+    none_left_asks = none_asked v t s c A x (kinds_from v t) (kinds_none v t l) h.each
 
-    pub leaf_laid : {out' : List ℕ} {z : ℕ} → EntriesLaid (entry_size table) 1 (λ i e. Entry table s c f d v x e) out a out' z
-        → EntriesLaid (entry_size table) (choices c (kinds_from v t)) (Choices table v t s c f d (kinds_from v t) x) out a out' z
-    leaf_laid k = none_laid table v t s c f d x (kinds_none v t l) k
+    none_left_room : (a w : ℕ) {n : ℕ} → a + choices c (kinds_from v t) * w ≤ n → a + w ≤ n
+    none_left_room a w {n} room =
+        let g : a + 1 * w ≤ n = rw (none_count v t s c (kinds_from v t) (kinds_none v t l)) at room in
+        omega (arith, one-mul w)
 
-  -- ── the n ranks of slot t, one after another ──
-  module _ (l : t ≤ v.arity) {n : ℕ} (e : n ≡ get_or c (kind_of v t) 0) where
+  -- ── the ranks of slot t, one after another ──
+  module _ (l : t ≤ v.arity) where
     abbrev ks : List ℕ
     ks = kinds_from v (suc t)
 
-    abbrev Turning : List ℕ → ℕ → ℕ → Type 0
-    Turning out' z r = Blocks (entry_size table) (choices c ks) n (Choices table v t s c f d (kinds_from v t) x) out a out' z r
-
-    all_choices : choices c (kinds_from v t) ≡ n * choices c ks
+    all_choices : choices c (kinds_from v t) ≡ get_or c (kind_of v t) 0 * choices c ks
     unfolding choices
-    all_choices = ap (choices c) (kinds_step v t l) ∙ ap (λ (n : ℕ). n * choices c ks) (sym e)
+    all_choices = ap (choices c) (kinds_step v t l)
 
-    pub turn_begun : Turning out a 0
-    turn_begun =
-        blocks_begun (entry_size table) (choices c ks) n (Choices table v t s c f d (kinds_from v t) x) out a
-        (subst (λ (m : ℕ). a + m * entry_size table ≤ length out) all_choices h.room)
+    rank_choosable : {r : ℕ} → r < get_or c (kind_of v t) 0 → Choosable A v (suc t) s c (tied_once v t (member s (kind_of v t) r) x)
+    rank_choosable {r} m = record {
+      ready = tie_ready h.ready t (member s (kind_of v t) r) l;
+      placed = h.placed;
+      each = rank_asked v t s c A x (kind_of v t) ks r m
+          (subst (λ ks. (rs : List ℕ) → Ranks c ks rs → A (chosen v t s ks rs x)) (kinds_step v t l) h.each);
+    }
 
-    pub turn_placed : {r : ℕ} → r < n → kind_of v t * max_members + r < length s
-    turn_placed k = let p = h.choose t l in omega (arith, p.there, p.few)
+    rank_then : (P : List ℕ → List ℕ → Type 0) (r : ℕ)
+        → Behind (r * choices c ks) (choices c ks) (Choices P v t s c (kinds_from v t) x) (Choices P v (suc t) s c ks (tied_once v t (member s (kind_of v t) r) x))
+    rank_then P r =
+        subst (λ u. Behind (r * choices c ks) (choices c ks) (Choices P v t s c u x) (Choices P v (suc t) s c ks (tied_once v t (member s (kind_of v t) r) x))) (sym (kinds_step v t l))
+        (rank_behind v t s c P x (kind_of v t) ks r)
 
-    module _ {out' : List ℕ} {z r : ℕ} (g : Turning out' z r) where
-      abbrev x' : List ℕ
-      x' = tied_once v t (member s (kind_of v t) r) x
+-- ── the last children, so many of them left ──
+module _ {A : List ℕ → Type 0} {v : Shape} {left : ℕ} {s c x : List ℕ} (h : Choosable A v (first_of v left) s c x) where
+  module _ (none : left ≡ 0) where
+    beyond : v.arity < first_of v left
+    beyond = omega arith
 
-      module _ (m : r < n) where
-        next_asked : Asked table v (suc t) s c f d x' out' z
-        next_asked = record {
-          standing = record { sized = h.standing.sized; placed = h.standing.placed; ready = tie_ready h.standing.sized h.standing.ready t (member s (kind_of v t) r) l };
-          choose = h.choose;
-          rankable = rank_rankable table v t s c f d x (kind_of v t) ks r (omega arith)
-              (subst (λ ks. (rs : List ℕ) → Ranks c ks rs → Rankable table s c f d v (chosen v t s ks rs x)) (kinds_step v t l) h.rankable);
-          room = blocks_room g m;
-        }
+    pub leaf_asks : A x
+    leaf_asks = none_left_asks h beyond
 
-        -- what the next slot asks for
-        pub turn_asks : {y : List ℕ} → y ≡ x' → Asked table v (t + 1) s c f d y out' z
-        turn_asks q = rw (q, add-one t) next_asked
+    pub leaf_room : (a w : ℕ) {n : ℕ} → a + choices c (kinds_from v (first_of v left)) * w ≤ n → a + w ≤ n
+    leaf_room = none_left_room h beyond
 
-        -- and what it brings
-        pub turn_next : {y : List ℕ} {out'' : List ℕ} {z' : ℕ} → y ≡ x'
-            → EntriesLaid (entry_size table) (choices c (kinds_from v (t + 1))) (Choices table v (t + 1) s c f d (kinds_from v (t + 1)) y) out' z out'' z'
-            → Turning out'' z' (r + 1)
-        turn_next {y} {out''} {z'} q k =
-            let k' : EntriesLaid (entry_size table) (choices c ks) (Choices table v (suc t) s c f d ks x') out' z out'' z' = rw (q, add-one t) at k in
-            blocks_next g m k'
-            (subst (λ u. Behind (r * choices c ks) (choices c ks) (Choices table v t s c f d u x) (Choices table v (suc t) s c f d ks x')) (sym (kinds_step v t l))
-            (rank_behind table v t s c f d x (kind_of v t) ks r))
+    pub leaf_laid : (P : List ℕ → List ℕ → Type 0) {w : ℕ} {out : List ℕ} {a : ℕ} {out' : List ℕ} {z : ℕ} → EntriesLaid w 1 (λ i e. P x e) out a out' z
+        → ChoicesLaid w P v (first_of v left) s c x out a out' z
+    leaf_laid P k = none_laid v (first_of v left) s c P x (kinds_none v (first_of v left) beyond) k
 
-      pub turn_done : n ≤ r → EntriesLaid (entry_size table) (choices c (kinds_from v t)) (Choices table v t s c f d (kinds_from v t) x) out a out' z
-      turn_done m = laid_count (blocks_done g m) (sym all_choices)
+  -- the first one's slot
+  module _ (within : left ≤ v.arity) (some : left ≡ 0 → ⊥) {slot : ℕ} (first : slot ≡ first_of v left) where
+    slot_in : slot ≤ v.arity
+    slot_in = omega arith
 
--- ── the last children, so many of them left; the first one's slot ──
-module _ {table : Table} {v : Shape} {left : ℕ} {s c f d x out : List ℕ} {a : ℕ} (h : Asked table v (first_of v left) s c f d x out a) (within : left ≤ v.arity) (some : left ≡ 0 → ⊥)
-    {slot : ℕ} (first : slot ≡ first_of v left) where
-  slot_in : slot ≤ v.arity
-  slot_in = omega arith
+    slot_next : suc slot ≡ first_of v (left - 1)
+    slot_next = omega arith
 
-  slot_next : slot + 1 ≡ first_of v (left - 1)
-  slot_next = omega arith
+    slot_open : Choosable A v slot s c x
+    slot_open = subst (λ t. Choosable A v t s c x) (sym first) h
 
-  slot_asked : Asked table v slot s c f d x out a
-  slot_asked = subst (λ t. Asked table v t s c f d x out a) (sym first) h
+    -- r of its ranks have their entries
+    abbrev Laying : ℕ → (List ℕ → List ℕ → Type 0) → List ℕ → ℕ → List ℕ → ℕ → ℕ → Type 0
+    Laying w P out a out' z r = Blocks w (choices c (kinds_from v (suc slot))) (get_or c (kind_of v slot) 0) (Choices P v slot s c (kinds_from v slot) x) out a out' z r
 
-  -- the entries of the slots from t on
-  abbrev Laid : ℕ → (x out : List ℕ) → ℕ → List ℕ → ℕ → Type 0
-  Laid t x out a out' z = EntriesLaid (entry_size table) (choices c (kinds_from v t)) (Choices table v t s c f d (kinds_from v t) x) out a out' z
+    pub lay_begun : {w : ℕ} (P : List ℕ → List ℕ → Type 0) (out : List ℕ) {a : ℕ} → a + choices c (kinds_from v (first_of v left)) * w ≤ length out → Laying w P out a out a 0
+    lay_begun {w} P out {a} room =
+        blocks_begun w (choices c (kinds_from v (suc slot))) (get_or c (kind_of v slot) 0) (Choices P v slot s c (kinds_from v slot) x) out a
+        (subst (λ (m : ℕ). a + m * w ≤ length out) (ap (λ t. choices c (kinds_from v t)) (sym first) ∙ all_choices slot_open slot_in) room)
 
-  module _ {n : ℕ} (e : n ≡ get_or c (kind_of v slot) 0) where
-    abbrev Laying : List ℕ → ℕ → ℕ → Type 0
-    Laying out' z r = Blocks (entry_size table) (choices c (kinds_from v (suc slot))) n (Choices table v slot s c f d (kinds_from v slot) x) out a out' z r
+    module _ {r : ℕ} (m : r < get_or c (kind_of v slot) 0) {y : List ℕ} (q : y ≡ tied_once v slot (member s (kind_of v slot) r) x) where
+      pub lay_asks : Choosable A v (first_of v (left - 1)) s c y
+      lay_asks = rw (q, ← slot_next) (rank_choosable slot_open slot_in m)
 
-    pub lay_begun : Laying out a 0
-    lay_begun = turn_begun slot_asked slot_in e
+      module _ {w : ℕ} (P : List ℕ → List ℕ → Type 0) {out : List ℕ} {a : ℕ} {out' : List ℕ} {z : ℕ} (g : Laying w P out a out' z r) where
+        pub lay_room : z + choices c (kinds_from v (first_of v (left - 1))) * w ≤ length out'
+        lay_room = rw (← slot_next) (blocks_room g m)
 
-    pub lay_placed : {r : ℕ} → r < n → kind_of v slot * max_members + r < length s
-    lay_placed = turn_placed slot_asked slot_in e
+        pub lay_next : {out'' : List ℕ} {z' : ℕ} → ChoicesLaid w P v (first_of v (left - 1)) s c y out' z out'' z' → Laying w P out a out'' z' (r + 1)
+        lay_next {out''} {z'} k =
+            let k' : ChoicesLaid w P v (suc slot) s c (tied_once v slot (member s (kind_of v slot) r) x) out' z out'' z' = rw (q, ← slot_next) at k in
+            blocks_next g m k' (rank_then slot_open slot_in P r)
 
-    module _ {out' : List ℕ} {z r : ℕ} (g : Laying out' z r) where
-      module _ (m : r < n) {y : List ℕ} (q : y ≡ tied_once v slot (member s (kind_of v slot) r) x) where
-        pub lay_asks : Asked table v (first_of v (left - 1)) s c f d y out' z
-        lay_asks = subst (λ t. Asked table v t s c f d y out' z) slot_next (turn_asks slot_asked slot_in e g m q)
-
-        pub lay_next : {out'' : List ℕ} {z' : ℕ} → Laid (first_of v (left - 1)) y out' z out'' z' → Laying out'' z' (r + 1)
-        lay_next {out''} {z'} k = turn_next slot_asked slot_in e g m q (subst (λ t. Laid t y out' z out'' z') (sym slot_next) k)
-
-      pub lay_done : n ≤ r → Laid (first_of v left) x out a out' z
-      lay_done m = subst (λ t. Laid t x out a out' z) first (turn_done slot_asked slot_in e g m)
+    pub lay_done : {w : ℕ} (P : List ℕ → List ℕ → Type 0) {out : List ℕ} {a : ℕ} {out' : List ℕ} {z r : ℕ} → Laying w P out a out' z r → get_or c (kind_of v slot) 0 ≤ r
+        → ChoicesLaid w P v (first_of v left) s c x out a out' z
+    lay_done {w} P {out} {a} {out'} {z} g m =
+        subst (λ t. ChoicesLaid w P v t s c x out a out' z) first (laid_count (blocks_done g m) (sym (all_choices slot_open slot_in)))
 
 -- ── the members of the left kind, one after another, with the children's choices each ──
 -- the entries of member u stand behind those of the members before it
-member_behind : (v : Shape) (s c f d ks x : List ℕ) (u : ℕ)
-    → Behind (u * choices c ks) (choices c ks) (AllChoices v s c f d ks x) (Choices Down v 1 s c f d ks (tied_once v 0 (member f (kind_of v 0) u) x))
-member_behind v s c f d ks x u i l b q u' rs h r e =
+member_behind : (P : List ℕ → List ℕ → Type 0) (v : Shape) (s c f d ks x : List ℕ) (u : ℕ) → u < left_many v d
+    → Behind (u * choices c ks) (choices c ks) (AllChoices P v s c f d ks x) (Choices P v 1 s c ks (joined_left v f u x))
+member_behind P v s c f d ks x u m i l b q u' rs h r e =
     let (first, rest) = same_from_place u' (choice c ks rs) u i (choices c ks) (choice_below c ks rs r) l e in
-    subst (λ (u : ℕ). Entry Down s c f d v (chosen v 1 s ks rs (tied_once v 0 (member f (kind_of v 0) u) x)) b) (sym first) (q rs r rest)
+    subst (λ (u : ℕ). P (chosen v 1 s ks rs (joined_left v f u x)) b) (sym first) (q rs r rest)
 
-module _ {v : Shape} {s c f d x out : List ℕ} {a : ℕ} (h : AllAsked v s c f d x out a) {n : ℕ} (e : n ≡ get_or d (kind_of v 0) 0) where
-  abbrev Feeding : List ℕ → ℕ → ℕ → Type 0
-  Feeding out' z u = Blocks entry_bytes (choices c (kinds_from v 1)) n (AllChoices v s c f d (kinds_from v 1) x) out a out' z u
+module _ {A : List ℕ → Type 0} {v : Shape} {s c f d x : List ℕ} (h : AllChoosable A v s c f d x) where
+  abbrev Feeding : ℕ → (List ℕ → List ℕ → Type 0) → List ℕ → ℕ → List ℕ → ℕ → ℕ → Type 0
+  Feeding w P out a out' z u = Blocks w (choices c (kinds_from v 1)) (left_many v d) (AllChoices P v s c f d (kinds_from v 1) x) out a out' z u
 
-  pub feed_begun : Feeding out a 0
-  feed_begun = blocks_begun entry_bytes (choices c (kinds_from v 1)) n (AllChoices v s c f d (kinds_from v 1) x) out a (rw e h.room)
+  module _ {u : ℕ} (m : u < left_many v d) {y : List ℕ} (q : y ≡ joined_left v f u x) where
+    pub feed_asks : Choosable A v (first_of v v.arity) s c y
+    feed_asks = rw (q, all_open v) (record {
+      ready = tie_ready h.ready 0 (member f (kind_of v 0) u) (omega arith);
+      placed = h.placed;
+      each = λ rs r. h.each u rs m r;
+    })
 
-  pub feed_placed : {u : ℕ} → u < n → kind_of v 0 * max_members + u < length f
-  feed_placed k = let p = h.standing.placed 0 (omega arith) in omega (arith, p.there, p.few)
+    module _ {w : ℕ} (P : List ℕ → List ℕ → Type 0) {out : List ℕ} {a : ℕ} {out' : List ℕ} {z : ℕ} (g : Feeding w P out a out' z u) where
+      pub feed_room : z + choices c (kinds_from v (first_of v v.arity)) * w ≤ length out'
+      feed_room = rw (all_open v) (blocks_room g m)
 
-  module _ {out' : List ℕ} {z u : ℕ} (g : Feeding out' z u) where
-    module _ (m : u < n) {y : List ℕ} (q : y ≡ tied_once v 0 (member f (kind_of v 0) u) x) where
-      -- what the children ask for
-      asked : Asked Down v 1 s c f d y out' z
-      asked = rw q (record {
-        standing = record {
-          sized = h.standing.sized;
-          placed = h.standing.placed;
-          ready = tie_ready h.standing.sized h.standing.ready 0 (member f (kind_of v 0) u) (omega arith);
-        };
-        choose = h.choose;
-        rankable = λ rs r. h.rankable u rs (omega arith) r;
-        room = blocks_room g m;
-      })
-
-      pub feed_asks : (v.arity ≤ v.arity) × Asked Down v (first_of v v.arity) s c f d y out' z
-      feed_asks = (omega arith, subst (λ t. Asked Down v t s c f d y out' z) (sym (all_open v)) asked)
-
-      -- and what they bring
-      pub feed_next : {out'' : List ℕ} {z' : ℕ}
-          → EntriesLaid entry_bytes (choices c (kinds_from v (first_of v v.arity))) (Choices Down v (first_of v v.arity) s c f d (kinds_from v (first_of v v.arity)) y) out' z out'' z'
-          → Feeding out'' z' (u + 1)
+      pub feed_next : {out'' : List ℕ} {z' : ℕ} → ChoicesLaid w P v (first_of v v.arity) s c y out' z out'' z' → Feeding w P out a out'' z' (u + 1)
       feed_next {out''} {z'} k =
-          let k' = subst (λ t. EntriesLaid entry_bytes (choices c (kinds_from v t)) (Choices Down v t s c f d (kinds_from v t) y) out' z out'' z') (all_open v) k in
-          blocks_next g m (rw q at k') (member_behind v s c f d (kinds_from v 1) x u)
-
-    pub feed_done : n ≤ u → EntriesLaid entry_bytes (get_or d (kind_of v 0) 0 * choices c (kinds_from v 1)) (AllChoices v s c f d (kinds_from v 1) x) out a out' z
-    feed_done m = laid_count (blocks_done g m) (ap (λ (n : ℕ). n * choices c (kinds_from v 1)) e)
+          let k' : ChoicesLaid w P v 1 s c (joined_left v f u x) out' z out'' z' = rw (q, all_open v) at k in
+          blocks_next g m k' (member_behind P v s c f d (kinds_from v 1) x u m)

@@ -9,9 +9,10 @@ use native.Mathlib.Omega.{arith}
 use lib.ListN.{length, take, drop, length-append, length-drop, take-append-drop}
 use lib.Seq.{take_at, take_all, take-append-le, drop-append-le, drop-append-add, drop-drop, length-take-le}
 use Rattle.lists.specs.Part.{part, place}
+use Rattle.lists.proofs.Order.{by_order}
 use Rattle.lists.proofs.Parts.{place_long}
 use Rattle.tables.specs.Promise.{Written}
-use Rattle.tables.specs.Fill.{Run, EntriesLaid}
+use Rattle.tables.specs.Fill.{Run, EntriesLaid, so_many, Filled}
 
 -- ── parts ──
 -- a list put behind another over the same list
@@ -172,3 +173,61 @@ module _ {w n : ℕ} {Q : ℕ → List ℕ → Type 0} {out out' : List ℕ} {z 
     beyond = ap (drop (n * w)) whole ∙ ap (λ (i : ℕ). drop i (h.bytes ++ drop (n * w) out)) (sym h.run.long ∙ sym (add-zero _))
         ∙ drop-append-add h.bytes (drop (n * w) out) 0;
   }
+
+-- ── all productions ──
+-- the entries of n productions by their place in the table
+abbrev pub InOrder : (f : ℕ → ℕ) (n : ℕ) (P : ℕ → ℕ → List ℕ → Type 0) → ℕ → List ℕ → Type 0
+InOrder f n P j e = (p i : ℕ) → p < n → i < f p → so_many f p + i ≡ j → P p i e
+
+so_many_after : (f : ℕ → ℕ) (p n : ℕ) → p < n → so_many f p + f p ≤ so_many f n
+unfolding so_many
+so_many_after f p zero h = elim h [ ]
+so_many_after f p (suc n) h = by_order (so_many f p + f p ≤ so_many f (suc n)) p n (λ e. rw e (omega arith))
+    (λ l. let b = so_many_after f p n l in omega arith) (λ l. absurd (omega arith))
+
+-- production p's entries stand behind those of the productions before it
+one_behind : (f : ℕ → ℕ) (n : ℕ) (P : ℕ → ℕ → List ℕ → Type 0) (p : ℕ) → Behind (so_many f p) (f p) (InOrder f n P) (P p)
+one_behind f n P p i l e q p' i' h k m =
+    by_order (P p' i' e) p' p here (λ b. absurd (omega (arith, so_many_after f p' p b))) (λ b. absurd (omega (arith, so_many_after f p p' b)))
+  where
+    here : p' ≡ p → P p' i' e
+    here r =
+        let s : so_many f p' ≡ so_many f p = ap (so_many f) r in
+        let d : i' ≡ i = omega arith in
+        rw (r, d) q
+
+-- the entries of the first p of n productions
+pub record Filling (w : ℕ) (f : ℕ → ℕ) (n : ℕ) (P : ℕ → ℕ → List ℕ → Type 0) (out out' : List ℕ) (z p : ℕ) : Type 0 where
+  pub within : p ≤ n
+  pub room : so_many f n * w ≤ length out
+  pub laid : EntriesLaid w (so_many f p) (InOrder f n P) out 0 out' z
+
+pub filling_begun : {w : ℕ} (f : ℕ → ℕ) (n : ℕ) (P : ℕ → ℕ → List ℕ → Type 0) {out : List ℕ} → so_many f n * w ≤ length out → Filling w f n P out out 0 0
+unfolding so_many
+filling_begun {w} f n P {out} h = record { within = omega arith; room = h; laid = laid_none w (InOrder f n P) out 0 }
+
+module _ {w : ℕ} {f : ℕ → ℕ} {n : ℕ} {P : ℕ → ℕ → List ℕ → Type 0} {out out' : List ℕ} {z p : ℕ} (h : Filling w f n P out out' z p) where
+  module _ (l : p < n) where
+    after : (so_many f p + f p) * w ≤ so_many f n * w
+    after = mul-le-mul_right w (so_many_after f p n l)
+
+    pub filling_room : z + f p * w ≤ length out'
+    filling_room = omega (arith, after, h.room, h.laid.ends, h.laid.long, add-mul (so_many f p) (f p) w)
+
+    pub filling_next : {out'' : List ℕ} {y : ℕ} → EntriesLaid w (f p) (P p) out' z out'' y → Filling w f n P out out'' y (p + 1)
+    unfolding so_many
+    filling_next k = record {
+      within = omega arith;
+      room = h.room;
+      laid = rw (add-one p) (laid_then h.laid k (omega (arith, after, h.room)) (one_behind f n P p));
+    }
+
+  -- THEOREM: each production has its entries, and the rest is as it came
+  pub filling_done : n ≤ p → Filled w f n P out out'
+  filling_done l = record {
+    each = λ q i b k. laid_each all h.room (so_many f q + i) (let c = so_many_after f q n b in omega arith) q i b k refl;
+    rest = laid_written all h.room;
+  }
+    where
+      all : EntriesLaid w (so_many f n) (InOrder f n P) out 0 out' z
+      all = let e : p ≡ n = omega (arith, h.within) in laid_count h.laid (ap (so_many f) e)

@@ -17,7 +17,7 @@ use Rattle.ranks.specs.Entries.{Ranks}
 use Rattle.tables.specs.Entries.{picked, Ranked}
 use Rattle.tables.specs.Memory.{Fine}
 use Rattle.tables.specs.State.{based}
-use Rattle.tables.specs.Shape.{ShapeAt, Sized, AllPlaced}
+use Rattle.tables.specs.Shape.{ShapeAt, AllPlaced}
 use Rattle.tables.specs.Fill.{Ready, tied_once, tied, RankOn}
 use Rattle.tables.specs.declared.shape.Shape.{Shape}
 use Rattle.members.proofs.Ranked.{ranked_has}
@@ -58,14 +58,12 @@ module _ {b : List ℕ} (a : Accepted b) (p : ℕ) (l : p < prods b) {v : Shape}
   first = based b (entry b p)
 
   -- ── what the writing leans on ──
-  pub shape_sized : Sized v
-  shape_sized = record { arity = arity_few a p l h; widths = width_few a p l h }
-
   pub shape_placed : {P : ℕ → ℕ → Type 0} {s c : List ℕ} → Fine (kinds b) P s c → AllPlaced v s c
   shape_placed f t k = fine_placed f _ (kind_below a p l h t k)
 
   pub base_ready : Ready v first
   base_ready = record {
+    sized = record { arity = arity_few a p l h; widths = width_few a p l h };
     state = base_state a p l;
     whole = λ t k. rw (width_is_of a p l h t k) (base_whole a p l t (omega (arith, arity_is a p l h)));
   }

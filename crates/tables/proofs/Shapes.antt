@@ -1,12 +1,11 @@
 -- The shape of a production, read off an accepted book: its slots are the grammar's.
-use mathlib.Core.Path.{◌≡◌, ap, ◌∙◌}
+use mathlib.Core.Path.{◌≡◌, refl, sym, ap, ◌∙◌}
 use mathlib.Core.List.{List, [], ◌∷◌}
 use Prim.Native.Nat.{ℕ, zero, suc, ◌+◌, ◌-◌, ◌^◌, ◌≤◌, ◌<◌}
-use native.Mathlib.Nat.{pow-le-pow_right}
+use native.Mathlib.Nat.{add-zero, zero-add, pow-le-pow_right}
 use native.Mathlib.Omega.{arith}
-use borrow.Author.Count.{below_more}
-use lib.ListN.{length, get_or, set, length-set}
-use lib.Seq.{ext_get_or, get_or-set_same, get_or-set_other}
+use lib.ListN.{length, get_or}
+use lib.Seq.{ext_get_or}
 use Rattle.chains.specs.Limits.{max_settings, max_kids, max_members}
 use Rattle.chains.specs.Grammar.{Grammar, slots, width}
 use Rattle.chains.specs.Labels as labelling
@@ -17,45 +16,31 @@ use Rattle.bookcheck.specs.Accepted.{Accepted}
 use Rattle.bookcheck.proofs.Accepted.{arity_read, kind_in_read}
 use Rattle.ranks.specs.Entries.{choices}
 use Rattle.ranks.proofs.Numbers.{choices_few}
-use Rattle.tables.specs.Shape.{max_slots, kind_of, width_of, kinds_from, first_of, ShapeAt, Small, Countable}
+use Rattle.tables.specs.Shape.{max_slots, no_slot, kind_of, width_of, kinds_from, first_of, slot_at, slots_at, shape_at, ShapeAt, Small, Countable}
 use Rattle.tables.specs.State.{width_in}
+use Rattle.tables.specs.declared.shape.Slot.{Slot}
 use Rattle.tables.specs.declared.shape.Shape.{Shape}
 use Rattle.tables.proofs.StateBase.{width_is, few_settings}
 
 -- ── the reading ──
--- x put behind the values that f has before t
-put_behind : (f : ℕ → ℕ) (l : List ℕ) (t : ℕ) {x : ℕ} → t < length l → ((i : ℕ) → i < t → get_or l i 0 ≡ f i) → x ≡ f t
-    → (i : ℕ) → i < t + 1 → get_or (set l t x) i 0 ≡ f i
-put_behind f l t {x} h all e =
-    below_more (λ i. get_or (set l t x) i 0 ≡ f i) t
-    (λ i k. let n : i ≡ t → ⊥ = λ q. omega arith in get_or-set_other l t i x 0 n ∙ all i k) (get_or-set_same l t x 0 h ∙ e)
+slots_long : (b : List ℕ) (at t n : ℕ) → length (slots_at b at t n) ≡ n
+slots_long b at t zero = refl
+slots_long b at t (suc n) = ap suc (slots_long b at (suc t) n)
 
--- the first t slots are read
-pub record Shaping (b : List ℕ) (at : ℕ) (ks ws : List ℕ) (t : ℕ) : Type 0 where
-  pub few : t ≤ max_slots
-  pub long_kinds : length ks ≡ max_slots
-  pub long_widths : length ws ≡ max_slots
-  pub kinds : (i : ℕ) → i < t → get_or ks i 0 ≡ kind_in b at i
-  pub widths : (i : ℕ) → i < t → get_or ws i 0 ≡ width_in b at i
+slots_get : (b : List ℕ) (at t n j : ℕ) → j < n → get_or (slots_at b at t n) j no_slot ≡ slot_at b at (t + j)
+slots_get b at t zero j h = elim h [ ]
+slots_get b at t (suc n) zero h = ap (slot_at b at) (sym (add-zero t))
+slots_get b at t (suc n) (suc j) h =
+    let e : suc t + j ≡ t + suc j = omega arith in
+    slots_get b at (suc t) n j (omega arith) ∙ ap (slot_at b at) e
 
-pub shape_begun : (b : List ℕ) (at : ℕ) (ks ws : List ℕ) → length ks ≡ max_slots → length ws ≡ max_slots → Shaping b at ks ws 0
-shape_begun b at ks ws h h' = record {
-  few = omega arith;
-  long_kinds = h;
-  long_widths = h';
-  kinds = λ i l. absurd (omega arith);
-  widths = λ i l. absurd (omega arith);
-}
-
-module _ {b : List ℕ} {at : ℕ} {ks ws : List ℕ} {t : ℕ} (h : Shaping b at ks ws t) where
-  pub shape_turn : {k w : ℕ} → t < max_slots → k ≡ kind_in b at t → w ≡ width_in b at t → Shaping b at (set ks t k) (set ws t w) (t + 1)
-  shape_turn {k} {w} l e e' = record {
-    few = omega arith;
-    long_kinds = length-set ks t k ∙ h.long_kinds;
-    long_widths = length-set ws t w ∙ h.long_widths;
-    kinds = put_behind (kind_in b at) ks t (omega (arith, h.long_kinds)) h.kinds e;
-    widths = put_behind (width_in b at) ws t (omega (arith, h.long_widths)) h.widths e';
-  }
+-- what is read is the shape
+pub shape_read : {b : List ℕ} {at : ℕ} {v : Shape} → v ≡ shape_at b at → ShapeAt b at v
+shape_read {b} {at} e = rw e (record {
+  arity = refl;
+  kinds = λ t l. ap (λ (s : Slot). s.kind) (slots_get b at 0 max_slots t l) ∙ ap (kind_in b at) (zero-add t);
+  widths = λ t l. ap (λ (s : Slot). s.width) (slots_get b at 0 max_slots t l) ∙ ap (width_in b at) (zero-add t);
+})
 
 -- ── the slots from one on ──
 -- as many slots as there are children begin with the first child

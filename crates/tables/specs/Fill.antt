@@ -1,23 +1,22 @@
 -- The entries of the two tables while they are written: the states that a production's choices come to, what an entry has from a state, and runs of
 -- entries. No promise of the library cites this page.
-use Rattle.std.specs.Prelude.{◌≡◌, List, [], ◌∷◌, ℕ, suc, ◌+◌, ◌*◌, ◌≤◌, ◌<◌, length, get_or, take}
+use Rattle.std.specs.Prelude.{◌≡◌, List, [], ◌∷◌, ℕ, zero, suc, ◌+◌, ◌*◌, ◌≤◌, ◌<◌, length, get_or, take}
 use Rattle.lists.specs.Part.{part, place}
 use Rattle.chains.specs.Limits.{max_kids}
-use Rattle.chains.specs.Grammar.{Grammar, width}
 use Rattle.chains.specs.Labels.{joins}
 use Rattle.chains.specs.State.{code_pairs, code_on}
-use Rattle.ranks.specs.Entries.{Ranks, choices, choice, up_entry, down_entry, labels, entry_bytes, none}
+use Rattle.ranks.specs.Entries.{Ranks, choices, choice, labels, none}
 use Rattle.members.specs.Sets.{Has, member}
-use Rattle.tables.specs.Entries.{picked, Upward, Downward, Ranked, DownEntry}
+use Rattle.tables.specs.Entries.{picked}
+use Rattle.tables.specs.Promise.{Written}
 use Rattle.tables.specs.State.{State, Whole, tidied}
 use Rattle.tables.specs.Shape.{kind_of, width_of, kinds_from, Sized, AllPlaced}
 use Rattle.tables.specs.declared.shape.Shape.{Shape}
-use Rattle.tables.specs.declared.entry.Table.{Table}
-use Rattle.tables.specs.declared.entry.Table.TheVariants.{Up, Down}
 
 -- ── states ──
--- x is a state in which the settings of each slot are there
+-- x is a state of a production of shape v: the settings of each slot are there
 pub record Ready (v : Shape) (x : List ℕ) : Type 0 where
+  pub sized : Sized v
   pub state : State x
   pub whole : (t : ℕ) → t ≤ v.arity → Whole x t (width_of v t)
 
@@ -29,12 +28,6 @@ tied_once v t y x = joins x (code_pairs t (width_of v t) y)
 unfoldable pub tied : Shape → ℕ → List ℕ → List ℕ → List ℕ
 tied v t [] x = x
 tied v t (y ∷ ys) x = tied v (suc t) ys (tied_once v t y x)
-
--- x is a state of a production of shape v, and the kinds have their places in the sets f, counted by d
-pub record InPlace (f d : List ℕ) (v : Shape) (x : List ℕ) : Type 0 where
-  pub sized : Sized v
-  pub placed : AllPlaced v f d
-  pub ready : Ready v x
 
 -- ── what an entry has from the state x ──
 -- the code that x shows on slot t is among those that f has of its kind, counted by d
@@ -68,23 +61,12 @@ pub record ChildRanks (f d : List ℕ) (v : Shape) (x : List ℕ) (n : ℕ) (out
   pub held : out' ≡ place a list out
   pub long : length out' ≡ length out
 
--- an entry of the up table has a rank among the plausible groupings s, counted by c; one of the down table ranks among the feasible ones f, counted by d
-abbrev pub Entry : Table → (s c f d : List ℕ) → Shape → List ℕ → List ℕ → Type 0
-Entry Up s c f d v x e = UpByte s c v x e
-Entry Down s c f d v x e = DownBytes f d v x e
+-- what is asked of a state, that its entry can be written: the kinds have their places in the sets, and what is to be ranked is there
+abbrev pub UpAsks : (s c : List ℕ) → Shape → List ℕ → Type 0
+UpAsks s c v x = AllPlaced v s c × Listed s c v 0 x
 
--- and takes so many places
-abbrev pub entry_size : Table → ℕ
-entry_size Up = 1
-entry_size Down = entry_bytes
-
--- what is to be ranked can be
-abbrev pub ChildrenListed : (f d : List ℕ) → Shape → List ℕ → Type 0
-ChildrenListed f d v x = (j : ℕ) → j < v.arity → Listed f d v (suc j) x
-
-abbrev pub Rankable : Table → (s c f d : List ℕ) → Shape → List ℕ → Type 0
-Rankable Up s c f d v x = Listed s c v 0 x
-Rankable Down s c f d v x = ChildrenListed f d v x
+abbrev pub DownAsks : (f d : List ℕ) → Shape → List ℕ → Type 0
+DownAsks f d v x = AllPlaced v f d × ((j : ℕ) → j < v.arity → Listed f d v (suc j) x)
 
 -- ── runs of entries ──
 -- l has n entries of w places each, of which the i-th has Q i
@@ -100,58 +82,49 @@ pub record EntriesLaid (w n : ℕ) (Q : ℕ → List ℕ → Type 0) (out : List
   pub long : length out' ≡ length out
   pub ends : z ≡ a + n * w
 
--- the i-th entry has what P says for the ranks whose number i is
-abbrev pub ByRanks : (c ks : List ℕ) → (List ℕ → List ℕ → Type 0) → ℕ → List ℕ → Type 0
-ByRanks c ks P i e = (rs : List ℕ) → Ranks c ks rs → choice c ks rs ≡ i → P rs e
-
 -- ── the entries of a state ──
 -- the members of s with these ranks, tied to the slots from t on, whose kinds are ks
 abbrev pub chosen : Shape → ℕ → (s ks rs x : List ℕ) → List ℕ
 chosen v t s ks rs x = tied v t (picked s ks rs) x
 
+-- the i-th entry has what P says of the state that the choice with the number i comes to
+abbrev pub Choices : (P : List ℕ → List ℕ → Type 0) → Shape → ℕ → (s c ks x : List ℕ) → ℕ → List ℕ → Type 0
+Choices P v t s c ks x i e = (rs : List ℕ) → Ranks c ks rs → choice c ks rs ≡ i → P (chosen v t s ks rs x) e
+
 -- the entries of all choices of plausible groupings for the slots from t on
-abbrev pub Choices : Table → Shape → ℕ → (s c f d ks x : List ℕ) → ℕ → List ℕ → Type 0
-Choices table v t s c f d ks x = ByRanks c ks (λ rs e. Entry table s c f d v (chosen v t s ks rs x) e)
+abbrev pub ChoicesLaid : (w : ℕ) (P : List ℕ → List ℕ → Type 0) → Shape → ℕ → (s c x out : List ℕ) → ℕ → List ℕ → ℕ → Type 0
+ChoicesLaid w P v t s c x out a out' z = EntriesLaid w (choices c (kinds_from v t)) (Choices P v t s c (kinds_from v t) x) out a out' z
 
--- what is asked before they are written
-pub record Asked (table : Table) (v : Shape) (t : ℕ) (s c f d x out : List ℕ) (a : ℕ) : Type 0 where
-  pub standing : InPlace f d v x
-  pub choose : AllPlaced v s c
-  pub rankable : (rs : List ℕ) → Ranks c (kinds_from v t) rs → Rankable table s c f d v (chosen v t s (kinds_from v t) rs x)
-  pub room : a + choices c (kinds_from v t) * entry_size table ≤ length out
+-- what is asked before they are written, where an entry asks A of its state
+pub record Choosable (A : List ℕ → Type 0) (v : Shape) (t : ℕ) (s c x : List ℕ) : Type 0 where
+  pub ready : Ready v x
+  pub placed : AllPlaced v s c
+  pub each : (rs : List ℕ) → Ranks c (kinds_from v t) rs → A (chosen v t s (kinds_from v t) rs x)
 
--- ── the entries of a production of the grammar ──
--- production p's entries of the up table, by their number among them
-abbrev pub UpRun : Grammar → (s c : List ℕ) → ℕ → ℕ → List ℕ → Type 0
-UpRun G s c p = ByRanks c (G.kids p) (λ rs e. Ranked s c (width G p 0) (G.left p) 0 (Upward G p (picked s (G.kids p) rs)) (get_or e 0 none))
+-- the same for each feasible grouping of the left kind, tied first
+abbrev pub joined_left : Shape → (f : List ℕ) → ℕ → List ℕ → List ℕ
+joined_left v f u x = tied_once v 0 (member f (kind_of v 0) u) x
 
--- and all productions' entries, by their number in the table
-abbrev pub UpAll : Grammar → (s c : List ℕ) → ℕ → List ℕ → Type 0
-UpAll G s c i e = (p : ℕ) (rs : List ℕ) → p < G.prods → Ranks c (G.kids p) rs → up_entry G c p rs ≡ i
-    → Ranked s c (width G p 0) (G.left p) 0 (Upward G p (picked s (G.kids p) rs)) (get_or e 0 none)
+abbrev pub left_many : Shape → (d : List ℕ) → ℕ
+left_many v d = get_or d (kind_of v 0) 0
 
--- the i-th entry has what P says for the first of n ranks and those of ks whose number i is
-abbrev pub ByAllRanks : (n : ℕ) (c ks : List ℕ) → (ℕ → List ℕ → List ℕ → Type 0) → ℕ → List ℕ → Type 0
-ByAllRanks n c ks P i e = (u : ℕ) (rs : List ℕ) → u < n → Ranks c ks rs → u * choices c ks + choice c ks rs ≡ i → P u rs e
+abbrev pub AllChoices : (P : List ℕ → List ℕ → Type 0) → Shape → (s c f d ks x : List ℕ) → ℕ → List ℕ → Type 0
+AllChoices P v s c f d ks x i e =
+    (u : ℕ) (rs : List ℕ) → u < left_many v d → Ranks c ks rs → u * choices c ks + choice c ks rs ≡ i → P (chosen v 1 s ks rs (joined_left v f u x)) e
 
--- the entries of all choices for the children, for each member of the left kind in f
-abbrev pub AllChoices : Shape → (s c f d ks x : List ℕ) → ℕ → List ℕ → Type 0
-AllChoices v s c f d ks x =
-    ByAllRanks (get_or d (kind_of v 0) 0) c ks (λ u rs e. Entry Down s c f d v (chosen v 1 s ks rs (tied_once v 0 (member f (kind_of v 0) u) x)) e)
+pub record AllChoosable (A : List ℕ → Type 0) (v : Shape) (s c f d x : List ℕ) : Type 0 where
+  pub ready : Ready v x
+  pub placed : AllPlaced v s c
+  pub left : AllPlaced v f d
+  pub each : (u : ℕ) (rs : List ℕ) → u < left_many v d → Ranks c (kinds_from v 1) rs → A (chosen v 1 s (kinds_from v 1) rs (joined_left v f u x))
 
--- what is asked before they are written
-pub record AllAsked (v : Shape) (s c f d x out : List ℕ) (a : ℕ) : Type 0 where
-  pub standing : InPlace f d v x
-  pub choose : AllPlaced v s c
-  pub rankable : (u : ℕ) (rs : List ℕ) → u < get_or d (kind_of v 0) 0 → Ranks c (kinds_from v 1) rs
-      → ChildrenListed f d v (chosen v 1 s (kinds_from v 1) rs (tied_once v 0 (member f (kind_of v 0) u) x))
-  pub room : a + get_or d (kind_of v 0) 0 * choices c (kinds_from v 1) * entry_size Down ≤ length out
+-- ── the entries of all productions ──
+-- the number of entries of the first n productions, of which f has each one's
+unfoldable pub so_many : (ℕ → ℕ) → ℕ → ℕ
+so_many f zero = 0
+so_many f (suc n) = so_many f n + f n
 
--- production p's entries of the down table, by their number among them
-abbrev pub DownRun : Grammar → (s c f d : List ℕ) → ℕ → ℕ → List ℕ → Type 0
-DownRun G s c f d p = ByAllRanks (get_or d (G.left p) 0) c (G.kids p) (λ u rs e. DownEntry G p f d (Downward G p (member f (G.left p) u) (picked s (G.kids p) rs)) e)
-
--- and all productions' entries, by their number in the table
-abbrev pub DownAll : Grammar → (s c f d : List ℕ) → ℕ → List ℕ → Type 0
-DownAll G s c f d i e = (p u : ℕ) (rs : List ℕ) → p < G.prods → u < get_or d (G.left p) 0 → Ranks c (G.kids p) rs → down_entry G c d p u rs ≡ i
-    → DownEntry G p f d (Downward G p (member f (G.left p) u) (picked s (G.kids p) rs)) e
+-- each of n productions has its entries behind those of the ones before it, of which the i-th has P p i; and what stands behind all is as it came
+pub record Filled (w : ℕ) (f : ℕ → ℕ) (n : ℕ) (P : ℕ → ℕ → List ℕ → Type 0) (out out' : List ℕ) : Type 0 where
+  pub each : (p i : ℕ) → p < n → i < f p → P p i (part ((so_many f p + i) * w) w out')
+  pub rest : Written (so_many f n * w) out out'

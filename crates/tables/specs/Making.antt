@@ -1,5 +1,5 @@
 -- The build as it goes on, from an accepted book. No promise of the library cites this page.
-use Rattle.std.specs.Prelude.{◌≡◌, Bool, true, false, List, [], ◌∷◌, ℕ, ◌*◌, ◌≤◌, ◌<◌, length}
+use Rattle.std.specs.Prelude.{◌≡◌, List, [], ◌∷◌, ℕ, ◌*◌, ◌≤◌, ◌<◌, length}
 use Rattle.lists.specs.Refusals.{Said, accepted, refused, First}
 use Rattle.chains.specs.Grammar.{Grammar}
 use Rattle.chains.specs.Plausible.{Plausible}
@@ -26,11 +26,11 @@ pub record Ready (b : List ℕ) (m : Lent) : Type 0 where
   pub clean : (n p : ℕ) → rows.Applies b n p → ⊥
   pub room : Roomy (kinds b) (length m.plausible) (length m.plausible_counts) (length m.feasible) (length m.feasible_counts)
 
--- what the passes leave of the sets and counts s c f d, and the refusal that one of them comes to, 0 for none
-pub data Passed (b s c f d s' c' f' d' : List ℕ) : ℕ → Type 0 where
-  over_plausible : Over (kinds b) (Plausible (grammar b)) → Passed b s c f d s' c' f' d' 10
-  over_feasible : Holds (kinds b) (Plausible (grammar b)) s c s' c' → Over (kinds b) (Feasible (grammar b)) → Passed b s c f d s' c' f' d' 11
-  both_hold : Holds (kinds b) (Plausible (grammar b)) s c s' c' → Holds (kinds b) (Feasible (grammar b)) f d f' d' → Passed b s c f d s' c' f' d' 0
+-- what the passes leave of the sets and counts s c f d, and what they say
+pub data Passed (b s c f d s' c' f' d' : List ℕ) : Said → Type 0 where
+  over_plausible : Over (kinds b) (Plausible (grammar b)) → Passed b s c f d s' c' f' d' (refused 10 0)
+  over_feasible : Holds (kinds b) (Plausible (grammar b)) s c s' c' → Over (kinds b) (Feasible (grammar b)) → Passed b s c f d s' c' f' d' (refused 11 0)
+  both_hold : Holds (kinds b) (Plausible (grammar b)) s c s' c' → Holds (kinds b) (Feasible (grammar b)) f d f' d' → Passed b s c f d s' c' f' d' (accepted [])
 
 -- both sets hold what they are to hold
 pub record Settled (b s c f d : List ℕ) : Type 0 where
@@ -55,11 +55,6 @@ TablesDue G s c f d u w (refused n p) u' w' = Exceeds (length u) (length w) (up_
 pub record Tabled (G : Grammar) (s c f d u w : List ℕ) (a : Said) (u' w' : List ℕ) : Type 0 where
   pub due : TablesDue G s c f d u w a u' w'
 
--- after passes that came to the refusal n, 0 for none
-pub record TabledAfter (n : ℕ) (G : Grammar) (s c f d u w : List ℕ) (a : Said) (u' w' : List ℕ) : Type 0 where
-  pub passed : n ≡ 0 → Tabled G s c f d u w a u' w'
-  pub stopped : (n ≡ 0 → ⊥) → a ≡ refused n 0
-
 -- ── the whole, before a refusal's memory is wiped ──
 abbrev pub WorkDue : List ℕ → Lent → Said → Lent → Type 0
 WorkDue b m (accepted counts) m' = ((n p : ℕ) → Applies b m n p → ⊥) × Built (grammar b) m m' counts
@@ -67,8 +62,3 @@ WorkDue b m (refused n p) m' = First rows.turn (λ f. Applies b m f.0 f.1) (n, p
 
 pub record Worked (b : List ℕ) (m : Lent) (a : Said) (m' : Lent) : Type 0 where
   pub due : WorkDue b m a m'
-
--- whether an answer is a refusal
-abbrev pub refuses : Said → Bool
-refuses (accepted counts) = false
-refuses (refused n p) = true

@@ -1,255 +1,115 @@
 // The entries of the up and the down table. They are written one behind another: production after production, of each the choices with the first
 // child's rank counting most, so that the place of an entry is where the one before it ends.
-ghost use Rattle.std.specs.Prelude.{◌≡◌, ◌+◌, ◌*◌, ◌<◌, ◌≤◌, length, get_or};
-ghost use Rattle.chains.specs.Limits.{max_kids, max_members};
-ghost use Rattle.book.specs.Format.{prods, grammar};
+ghost use Rattle.std.specs.Prelude.{◌≡◌, List, ℕ, ◌+◌, ◌*◌, ◌<◌, ◌≤◌, length};
+ghost use Rattle.book.specs.Format.{prods};
 ghost use Rattle.ranks.specs.Entries.{choices, entry_bytes};
-ghost use Rattle.members.specs.Sets.{member};
-ghost use Rattle.tables.specs.Entries.{UpTable, DownTable};
-ghost use Rattle.tables.specs.Promise.{up_entries, down_entries, Written};
-ghost use Rattle.tables.specs.Shape.{kind_of, kinds_from, first_of, Sized, Opened};
-ghost use Rattle.tables.specs.Making.{Settled};
-ghost use Rattle.tables.specs.Fill.{Ready, tied_once, entry_size, EntriesLaid, Choices, Asked, AllAsked, AllChoices, UpRun, DownRun};
+ghost use Rattle.tables.specs.Shape.{kinds_from, first_of, shape_of, base_of, Opened};
+ghost use Rattle.tables.specs.Fill.{Ready, tied_once, UpAsks, UpByte, DownAsks, DownBytes, EntriesLaid, Choosable, Choices, ChoicesLaid, left_many, AllChoosable, AllChoices, so_many, Filled};
 
-use super::entry::{Table, put_entry};
+use super::entry::{Down, Entry, Up};
 use super::labels::Labels;
-use super::sets::MAX_MEMBERS;
-use super::shape::{Shape, shape_of};
-use ranks::{Feasible, Plausible};
+use super::ranked::Sets;
+use super::shape::Shape;
 
-const PRODUCTIONS: usize = book::limits::MAX_PRODUCTIONS as usize;
-
-// ---- the entries of a production
-
-// The number of members that a slot has to choose from.
-fn members_on(v: Shape, slot: u8, counts: &[u8]) -> u8
-    requires { (v.arity ≤ max_kids) × (slot ≤ v.arity) × (kind_of v slot < length counts.now) }
-    ensures { result ≡ get_or counts.now (kind_of v slot) 0 }
+// The state s with a code tied to a slot.
+fn tied(v: Shape, slot: u8, code: u32, s: &Labels) -> Labels
+    requires { Ready v s.now × (slot ≤ v.arity) }
+    ensures { result ≡ tied_once v slot code s.now }
 {
-    counts[v.kinds[slot as usize] as usize]
-}
-
-// The state s with the r-th member of a slot's kind tied to the slot: what both kinds of rank stand for.
-fn tie_member(v: Shape, slot: u8, r: u8, sets: &[u32], s: &Labels) -> Labels
-    requires { Sized v × Ready v s.now × (slot ≤ v.arity) × (kind_of v slot * max_members + r < length sets.now) }
-    ensures { result ≡ tied_once v slot (member sets.now (kind_of v slot) r) s.now }
-{
-    let i = slot as usize;
     let mut t = *s;
-    t.tie(
-        slot,
-        v.widths[i],
-        sets[v.kinds[i] as usize * MAX_MEMBERS + r as usize],
-    );
+    t.tie(slot, v.width(slot), code);
     t
 }
 
-// The grouping with a plausible rank, tied to a child.
-fn tie_plausible(v: Shape, slot: u8, r: Plausible, plausible: &[u32], s: &Labels) -> Labels
-    requires { Sized v × Ready v s.now × (slot ≤ v.arity) × (kind_of v slot * max_members + r.0 < length plausible.now) }
-    ensures { result ≡ tied_once v slot (member plausible.now (kind_of v slot) r.0) s.now }
-{
-    tie_member(v, slot, r.0, plausible, s)
-}
-
-// The grouping with a feasible rank, tied to the left kind.
-fn tie_feasible(v: Shape, r: Feasible, feasible: &[u32], s: &Labels) -> Labels
-    requires { Sized v × Ready v s.now × (kind_of v 0 * max_members + r.0 < length feasible.now) }
-    ensures { result ≡ tied_once v 0 (member feasible.now (kind_of v 0) r.0) s.now }
-{
-    tie_member(v, 0, r.0, feasible, s)
-}
-
-// The entries of all choices for the last `left` children, in order: the first of them is chosen for first, so that its rank counts most. The answer
-// is the place behind the entries.
-fn lay(
-    table: Table,
+// The entries of all choices of plausible groupings for the last `left` children, in order: the first of them is chosen for first, so that its
+// rank counts most. The answer is the place behind the entries.
+fn lay<E: Entry>(
+    table: &E,
     v: Shape,
     left: u8,
     s: &Labels,
-    plausible: &[u32],
-    counts: &[u8],
-    feasible: &[u32],
-    tally: &[u8],
+    plausible: Sets,
     out: &mut [u8],
     at: usize,
 ) -> usize
-    requires { (left ≤ v.arity) × Asked table v (first_of v left) plausible.now counts.now feasible.now tally.now s.now out.old at }
-    ensures { EntriesLaid (entry_size table) (choices counts.now (kinds_from v (first_of v left)))
-        (Choices table v (first_of v left) plausible.now counts.now feasible.now tally.now (kinds_from v (first_of v left)) s.now)
+    requires { (left ≤ v.arity) × Choosable (E.asks table.now v) v (first_of v left) plausible.codes.now plausible.counts.now s.now
+        × (at + choices plausible.counts.now (kinds_from v (first_of v left)) * E.size ≤ length out.old) }
+    ensures { ChoicesLaid E.size (E.says table.now v) v (first_of v left) plausible.entry.codes.now plausible.entry.counts.now s.now
         out.old at out.new result }
 {
     if left == 0 {
-        return put_entry(table, v, s, plausible, counts, feasible, tally, out, at);
+        return table.put(v, s, out, at);
     }
     let last = v.arity;
     let slot = last + 1 - left;
-    let n = members_on(v, slot, counts);
     let mut to = at;
-    let mut r = 0;
-    while r < n {
-        let t = tie_plausible(v, slot, Plausible(r), plausible, s);
-        to = lay(
-            table,
-            v,
-            left - 1,
-            &t,
-            plausible,
-            counts,
-            feasible,
-            tally,
-            out,
-            to,
-        );
-        r += 1;
+    for &code in plausible.members(v.kind(slot)) {
+        let t = tied(v, slot, code, s);
+        to = lay(table, v, left - 1, &t, plausible, out, to);
     }
     to
 }
 
-// The entries of all choices for the children, for each feasible grouping of the left kind, in order; the answer is the place behind them.
-fn lay_down(
-    v: Shape,
-    s: &Labels,
-    plausible: &[u32],
-    counts: &[u8],
-    feasible: &[u32],
-    tally: &[u8],
-    out: &mut [u8],
-    at: usize,
-) -> usize
-    requires { AllAsked v plausible.now counts.now feasible.now tally.now s.now out.old at }
-    ensures { EntriesLaid entry_bytes (get_or tally.now (kind_of v 0) 0 * choices counts.now (kinds_from v 1))
-        (AllChoices v plausible.now counts.now feasible.now tally.now (kinds_from v 1) s.now) out.old at out.new result }
-{
-    let n = members_on(v, 0, tally);
-    let mut to = at;
-    let mut u = 0;
-    while u < n {
-        let t = tie_feasible(v, Feasible(u), feasible, s);
-        to = lay(
-            Table::Down,
-            v,
-            v.arity,
-            &t,
-            plausible,
-            counts,
-            feasible,
-            tally,
-            out,
-            to,
-        );
-        u += 1;
-    }
-    to
+// What a table has of a production.
+pub trait Table: Entry {
+    ghost use Rattle.tables.specs.declared.shape.Shape.{Shape};
+
+    // The number of a production's entries; what they ask of its base; what the i-th of them says of it.
+    ghost many: { Self → Shape → ℕ };
+
+    ghost opens: { Self → Shape → List ℕ → Type 0 };
+
+    ghost holds: { Self → Shape → List ℕ → ℕ → List ℕ → Type 0 };
+
+    // The entries of a production, from its base, from `at` on. The answer is the place behind them.
+    fn run(&self, v: Shape, s: &Labels, out: &mut [u8], at: usize) -> usize
+        requires { opens self.now v s.now × (at + many self.now v * Self.size ≤ length out.old) }
+        ensures { EntriesLaid Self.size (many self.now v) (holds self.now v s.now) out.old at out.new result };
 }
 
-// ---- the up table
+// An entry for each choice of plausible groupings for the children.
+impl<'a> Table for Up<'a> {
+    ghost many = { λ t v. choices t.plausible.counts.now (kinds_from v 1) };
 
-// The entries of a production, from `at` on.
-fn up_run(
-    book: &[u8],
-    places: &[usize; PRODUCTIONS],
-    p: usize,
-    plausible: &[u32],
-    counts: &[u8],
-    feasible: &[u32],
-    tally: &[u8],
-    up: &mut [u8],
-    at: usize,
-) -> usize
-    requires { Opened book.now places.now × (p < prods book.now) × Settled book.now plausible.now counts.now feasible.now tally.now
-        × (at + choices counts.now ((grammar book.now).kids p) ≤ length up.old) }
-    ensures { EntriesLaid 1 (choices counts.now ((grammar book.now).kids p))
-        (UpRun (grammar book.now) plausible.now counts.now p) up.old at up.new result }
-{
-    let entry = places[p];
-    let v = shape_of(book, entry);
-    let s = Labels::base(book, entry);
-    lay(
-        Table::Up,
-        v,
-        v.arity,
-        &s,
-        plausible,
-        counts,
-        feasible,
-        tally,
-        up,
-        at,
-    )
-}
+    ghost opens = { λ t v x. Choosable (UpAsks t.plausible.codes.now t.plausible.counts.now v) v 1 t.plausible.codes.now t.plausible.counts.now x };
 
-// Every up entry, one production behind another. What stands behind them stays as it came.
-pub fn fill_up(
-    book: &[u8],
-    places: &[usize; PRODUCTIONS],
-    plausible: &[u32],
-    counts: &[u8],
-    feasible: &[u32],
-    tally: &[u8],
-    up: &mut [u8],
-)
-    requires { Opened book.now places.now × Settled book.now plausible.now counts.now feasible.now tally.now
-        × (up_entries (grammar book.now) counts.now ≤ length up.old) }
-    ensures { UpTable (grammar book.now) plausible.now counts.now up.new
-        × Written (up_entries (grammar book.now) counts.now) up.old up.new }
-{
-    let n = book::productions(book) as usize;
-    let mut at = 0;
-    let mut p = 0;
-    while p < n {
-        at = up_run(book, places, p, plausible, counts, feasible, tally, up, at);
-        p += 1;
+    ghost holds = { λ t v x. Choices (UpByte t.plausible.codes.now t.plausible.counts.now v) v 1 t.plausible.codes.now t.plausible.counts.now (kinds_from v 1) x };
+
+    fn run(&self, v: Shape, s: &Labels, out: &mut [u8], at: usize) -> usize {
+        lay(self, v, v.arity, s, self.plausible, out, at)
     }
 }
 
-// ---- the down table
+// The same for each feasible grouping of the left kind, in order.
+impl<'a> Table for Down<'a> {
+    ghost many = { λ t v. left_many v t.feasible.counts.now * choices t.plausible.counts.now (kinds_from v 1) };
 
-// The entries of a production, from `at` on.
-fn down_run(
-    book: &[u8],
-    places: &[usize; PRODUCTIONS],
-    p: usize,
-    plausible: &[u32],
-    counts: &[u8],
-    feasible: &[u32],
-    tally: &[u8],
-    down: &mut [u8],
-    at: usize,
-) -> usize
-    requires { Opened book.now places.now × (p < prods book.now) × Settled book.now plausible.now counts.now feasible.now tally.now
-        × (at + get_or tally.now ((grammar book.now).left p) 0 * choices counts.now ((grammar book.now).kids p) * entry_bytes ≤ length down.old) }
-    ensures { EntriesLaid entry_bytes (get_or tally.now ((grammar book.now).left p) 0 * choices counts.now ((grammar book.now).kids p))
-        (DownRun (grammar book.now) plausible.now counts.now feasible.now tally.now p) down.old at down.new result }
-{
-    let entry = places[p];
-    let v = shape_of(book, entry);
-    let s = Labels::base(book, entry);
-    lay_down(v, &s, plausible, counts, feasible, tally, down, at)
+    ghost opens = { λ t v x. AllChoosable (DownAsks t.feasible.codes.now t.feasible.counts.now v) v t.plausible.codes.now t.plausible.counts.now t.feasible.codes.now t.feasible.counts.now x };
+
+    ghost holds = { λ t v x. AllChoices (DownBytes t.feasible.codes.now t.feasible.counts.now v) v t.plausible.codes.now t.plausible.counts.now t.feasible.codes.now t.feasible.counts.now (kinds_from v 1) x };
+
+    fn run(&self, v: Shape, s: &Labels, out: &mut [u8], at: usize) -> usize {
+        let mut to = at;
+        for &code in self.feasible.members(v.kind(0)) {
+            let t = tied(v, 0, code, s);
+            to = lay(self, v, v.arity, &t, self.plausible, out, to);
+        }
+        to
+    }
 }
 
-// Every down entry, one production behind another. What stands behind them stays as it came.
-pub fn fill_down(
-    book: &[u8],
-    places: &[usize; PRODUCTIONS],
-    plausible: &[u32],
-    counts: &[u8],
-    feasible: &[u32],
-    tally: &[u8],
-    down: &mut [u8],
-)
-    requires { Opened book.now places.now × Settled book.now plausible.now counts.now feasible.now tally.now
-        × (down_entries (grammar book.now) counts.now tally.now * entry_bytes ≤ length down.old) }
-    ensures { DownTable (grammar book.now) plausible.now counts.now feasible.now tally.now down.new
-        × Written (down_entries (grammar book.now) counts.now tally.now * entry_bytes) down.old down.new }
+// Every entry of a table, one production behind another. What stands behind them stays as it came.
+pub fn fill<T: Table>(table: &T, book: &[u8], places: &[usize], out: &mut [u8])
+    requires { Opened book.now places.now
+        × ((p : ℕ) → p < prods book.now → T.opens table.now (shape_of book.now p) (base_of book.now p))
+        × (so_many (λ p. T.many table.now (shape_of book.now p)) (prods book.now) * T.size ≤ length out.old) }
+    ensures { Filled T.size (λ p. T.many table.now (shape_of book.now p)) (prods book.now)
+        (λ p. T.holds table.now (shape_of book.now p) (base_of book.now p)) out.old out.new }
 {
-    let n = book::productions(book) as usize;
-    let mut at = 0;
-    let mut p = 0;
-    while p < n {
-        at = down_run(
-            book, places, p, plausible, counts, feasible, tally, down, at,
-        );
-        p += 1;
+    let mut to = 0;
+    for &at in places {
+        let v = Shape::of(book, at);
+        let s = Labels::base(book, at);
+        to = table.run(v, &s, out, to);
     }
 }

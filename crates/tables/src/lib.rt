@@ -6,6 +6,7 @@ mod entry;
 mod fill;
 mod labels;
 mod making;
+mod ranked;
 mod seen;
 mod sets;
 mod shape;
@@ -16,11 +17,13 @@ mod visit;
 ghost use Rattle.tables.specs.Promise.{BuildDue};
 ghost use Rattle.tables.specs.Answer.{said, lent};
 
-// What a build answers: the numbers of up and down entries, or the first refusal that applies.
-#[derive(Clone, Copy)]
-pub enum Built {
-    Accepted { up: u64, down: u64 },
-    Refused { number: u8, place: u16 },
+use refusals::{Refusal, Refused};
+
+// What an accepted build says: the numbers of up and down entries.
+#[derive(Clone, Copy, Debug, PartialEq, Eq)]
+pub struct Counts {
+    pub up: u64,
+    pub down: u64,
 }
 
 // Refusals 1 to 13; or the plausible and the feasible sets, MAX_MEMBERS places for each kind with its count beside it, and the two tables.
@@ -32,41 +35,23 @@ pub fn build(
     tally: &mut [u8],
     up: &mut [u8],
     down: &mut [u8],
-) -> Built
+) -> Result<Counts, Refused>
     ensures { BuildDue book.now
         (lent plausible.old counts.old feasible.old tally.old up.old down.old)
         (said result)
         (lent plausible.new counts.new feasible.new tally.new up.new down.new) }
 {
-    match bookcheck::check_book(book) {
-        bookcheck::Checked::Refused { number, place } => Built::Refused { number, place },
-        bookcheck::Checked::Accepted { kinds, productions } => {
-            if members::too_short(
-                kinds as usize,
-                plausible.len(),
-                counts.len(),
-                feasible.len(),
-                tally.len(),
-            ) {
-                return Built::Refused {
-                    number: 9,
-                    place: 0,
-                };
-            }
-            let number = making::passes(book, plausible, counts, feasible, tally);
-            let built = making::write_tables(
-                number, book, plausible, counts, feasible, tally, up, down,
-            );
-            zeros::wipe(
-                making::refuses(built),
-                plausible,
-                counts,
-                feasible,
-                tally,
-                up,
-                down,
-            );
-            built
-        }
+    let checked = bookcheck::check_book(book)?;
+    if members::too_short(
+        checked.kinds as usize,
+        plausible.len(),
+        counts.len(),
+        feasible.len(),
+        tally.len(),
+    ) {
+        return Err(Refusal::ShortSets.at(0));
     }
+    let built = making::make(book, plausible, counts, feasible, tally, up, down);
+    zeros::wipe(built.is_err(), plausible, counts, feasible, tally, up, down);
+    built
 }

@@ -1,12 +1,13 @@
 // How many entries the two tables have, by the counts of the sets.
-ghost use Rattle.std.specs.Prelude.{◌≡◌, ◌*◌, ◌^◌, ◌<◌, ◌≤◌, get_or};
+ghost use Rattle.std.specs.Prelude.{◌≡◌, ◌*◌, ◌^◌, ◌≤◌};
 ghost use Rattle.chains.specs.Limits.{max_members, max_kids};
 ghost use Rattle.book.specs.Format.{grammar};
 ghost use Rattle.ranks.specs.Entries.{choices};
 ghost use Rattle.tables.specs.Promise.{up_entries, down_entries};
-ghost use Rattle.tables.specs.Shape.{Opened, Small, Countable, kind_of, kinds_from};
+ghost use Rattle.tables.specs.Shape.{Opened, Small, Countable, kinds_from};
 
-use super::shape::{Shape, shape_of};
+use super::Counts;
+use super::shape::Shape;
 
 // The number of choices of a member for each child.
 fn choices(v: Shape, counts: &[u8]) -> u64
@@ -14,49 +15,23 @@ fn choices(v: Shape, counts: &[u8]) -> u64
     ensures { (result ≡ choices counts.now (kinds_from v 1)) × (result ≤ max_members ^ max_kids) }
 {
     let mut product: u64 = 1;
-    let mut t = v.arity as usize;
-    while 0 < t {
-        product = counts[v.kinds[t] as usize] as u64 * product;
-        t -= 1;
+    for child in v.children() {
+        product *= counts[child.kind as usize] as u64;
     }
     product
 }
 
-// The down entries of a production with so many choices: all of them for each feasible grouping of its left kind.
-fn choices_down(v: Shape, many: u64, tally: &[u8]) -> u64
-    requires { Countable v tally.now × (many ≤ max_members ^ max_kids) }
-    ensures { result ≡ get_or tally.now (kind_of v 0) 0 * many }
-{
-    tally[v.kinds[0] as usize] as u64 * many
-}
-
-// The numbers of up and down entries of all productions.
-#[derive(Clone, Copy)]
-pub struct Sums {
-    pub up: u64,
-    pub down: u64,
-}
-
-// Summed up production by production.
-pub fn totals(
-    book: &[u8],
-    places: &[usize; book::limits::MAX_PRODUCTIONS as usize],
-    counts: &[u8],
-    tally: &[u8],
-) -> Sums
+// The entries of all productions. A down entry stands for a choice and a feasible grouping of the left kind.
+pub fn totals(book: &[u8], places: &[usize], counts: &[u8], tally: &[u8]) -> Counts
     requires { Opened book.now places.now × Small book.now counts.now × Small book.now tally.now }
     ensures { (result.up ≡ up_entries (grammar book.now) counts.now) × (result.down ≡ down_entries (grammar book.now) counts.now tally.now) }
 {
-    let n = book::productions(book) as usize;
-    let mut up: u64 = 0;
-    let mut down: u64 = 0;
-    let mut p = 0;
-    while p < n {
-        let v = shape_of(book, places[p]);
+    let mut all = Counts { up: 0, down: 0 };
+    for &at in places {
+        let v = Shape::of(book, at);
         let many = choices(v, counts);
-        up += many;
-        down += choices_down(v, many, tally);
-        p += 1;
+        all.up += many;
+        all.down += tally[v.kind(0)] as u64 * many;
     }
-    Sums { up, down }
+    all
 }

@@ -1,41 +1,35 @@
--- The build: the book is checked, its sets are measured, the passes are made and the tables written; after a refusal of these all is wiped.
-use Rattle.tables.specs.Answer.{said, lent}
-use Rattle.tables.proofs.Building.{built_of_book, built_short, built_ready, wiped_same}
-use Rattle.tables.proofs.BuildSteps.{passed_settled, passed_worked, left, built}
+-- The build: the book is checked, its sets are measured, then the sets and the tables are made; after a refusal of these all is wiped.
+use Rattle.std.proofs.lemmas.Result.{err_from_is_err_and}
+use Rattle.tables.specs.Answer.{lent}
+use Rattle.tables.proofs.Building.{built_of_book, built_short, built_ready, built, wiped_same, left}
 use Rattle.tables.proofs.build.Goals as goal
 
+pub returns-in_err-checked : goal.returns-in_err-checked
+returns-in_err-checked c =
+    let p = err_from_is_err_and c.from_residual.result c.from_residual.ensures.1 in
+    rw (p.1, p.2) (built_of_book _ _ c.in_err-checked.field-0.0 c.in_err-checked.ensures)
+
 pub returns-then-too_short : goal.returns-then-too_short
-returns-then-too_short c = built_short _ _ _ c.check_book.ensures _ _ c.in-Accepted.is _ c.too_short.ensures c.if-too_short.true
-
-pub passes-number-requires : goal.passes-number-requires
-passes-number-requires c =
+returns-then-too_short c =
     let o = c.args in
     let m = lent o.plausible.now o.counts.now o.feasible.now o.tally.now o.up.now o.down.now in
-    let ready = built_ready o.book.now m _ c.check_book.ensures _ _ c.in-Accepted.is _ c.too_short.ensures c.if-too_short.false in
-    (ready.book, ready.room)
+    rw c.at.ensures (built_short m c.in_ok-checked.ensures c.too_short.ensures c.if-too_short.true)
 
-pub write_tables-built-requires : goal.write_tables-built-requires
-write_tables-built-requires c =
+pub make-built-requires : goal.make-built-requires
+make-built-requires c =
     let o = c.args in
     let m = lent o.plausible.now o.counts.now o.feasible.now o.tally.now o.up.now o.down.now in
-    let ready = built_ready o.book.now m _ c.check_book.ensures _ _ c.in-Accepted.is _ c.too_short.ensures c.if-too_short.false in
-    (ready.book, passed_settled ready.room c.passes-number.ensures)
+    built_ready m c.in_ok-checked.ensures c.too_short.ensures c.if-too_short.false
 
-pub returns-in-Refused : goal.returns-in-Refused
-returns-in-Refused c = built_of_book _ _ _ c.check_book.ensures _ _ c.in-Refused.is
-
-pub returns-else-too_short : goal.returns-else-too_short
-returns-else-too_short c =
+pub returns : goal.returns
+returns c =
     let o = c.args in
     let m = lent o.plausible.now o.counts.now o.feasible.now o.tally.now o.up.now o.down.now in
-    let ready = built_ready o.book.now m _ c.check_book.ensures _ _ c.in-Accepted.is _ c.too_short.ensures c.if-too_short.false in
-    let k = c.passes-number in
-    let t = c.write_tables-built in
-    let q = c.refuses in
+    let k = c.make-built in
+    let n = k.new in
+    let s = k.auto in
     let w = c.wipe.ensures in
-    let m' = lent k.new.plausible k.new.counts k.new.feasible k.new.tally t.new.up t.new.down in
-    built _ m m' _ t.result q.result
-    (passed_worked ready k.new.plausible k.new.counts k.new.feasible k.new.tally t.new.up t.new.down (said t.result) k.ensures t.ensures)
-    q.ensures
-    (wiped_same m m' k.auto.plausible k.auto.counts k.auto.feasible k.auto.tally t.auto.up t.auto.down)
-    (left q.result k.new.plausible k.new.counts k.new.feasible k.new.tally t.new.up t.new.down _ _ _ _ _ _ w.0 w.1 w.2 w.3 w.4 w.5)
+    let m' = lent n.plausible n.counts n.feasible n.tally n.up n.down in
+    built _ m m' _ k.result c.is_err.result k.ensures c.is_err.ensures.value
+    (wiped_same m m' s.plausible s.counts s.feasible s.tally s.up s.down)
+    (left c.is_err.result n.plausible n.counts n.feasible n.tally n.up n.down _ _ _ _ _ _ w.0 w.1 w.2 w.3 w.4 w.5)

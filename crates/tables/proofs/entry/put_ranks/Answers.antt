@@ -4,16 +4,13 @@ use Rattle.tables.proofs.FillEntry.{no_ranks, more_ranks, ranks_done}
 use Rattle.tables.proofs.entry.put_ranks.Goals as goal
 
 pub loop-j-init : goal.loop-j-init
-loop-j-init c = (omega arith, no_ranks _ _ _ _ _ _)
-
-pub feasible_rank-r-requires : goal.feasible_rank-r-requires
-feasible_rank-r-requires c = (c.requires.0, λ l. c.requires.1 _ l)
+loop-j-init c = no_ranks _ _ _ _ _ _
 
 pub bounds-out-at : goal.bounds-out-at
-bounds-out-at c = omega (arith, c.loop-j.invariant.1.long)
+bounds-out-at c = omega (arith, c.loop-j.invariant.long)
 
 pub loop-j-preserved : goal.loop-j-preserved
-loop-j-preserved c = (omega arith, more_ranks c.loop-j.invariant.1 (omega arith) c.feasible_rank-r.ensures)
+loop-j-preserved c = more_ranks c.loop-j.invariant (omega arith) c.feasible_rank.ensures
 
 pub returns : goal.returns
-returns c = ranks_done c.loop-j.invariant.1 (omega arith)
+returns c = ranks_done c.loop-j.invariant (omega arith)

@@ -2,8 +2,5 @@
 use Rattle.tables.proofs.EntryCounts.{Multiplying}
 use Rattle.tables.proofs.totals.choices.Given as goal
 
-abbrev pub invariant-loop-t : goal.invariant-loop-t
-invariant-loop-t l = Multiplying l.v l.counts l.product l.t
-
-abbrev pub decreases-loop-t : goal.decreases-loop-t
-decreases-loop-t l = l.t
+abbrev pub invariant-loop-child : goal.invariant-loop-child
+invariant-loop-child l = Multiplying l.fn.v l.counts l.product l.child-index

@@ -1,6 +1,0 @@
--- An up entry. Assumes nothing.
-use Rattle.tables.proofs.FillEntry.{up_put}
-use Rattle.tables.proofs.entry.put_up.Goals as goal
-
-pub returns : goal.returns
-returns c = up_put c.args.out.now c.args.at c.plausible_rank-r.ensures c.requires.2
