@@ -10,9 +10,9 @@ use Rattle.lists.specs.Pick.{pick}
 use Rattle.chains.specs.Limits.{max_settings, max_kids}
 use Rattle.chains.specs.State.{dropped}
 use Rattle.tables.specs.State.{State, spot, Whole, tidied}
-use Rattle.tables.specs.Visit.{slot_of, width_of, released, tied, chosen, Ready, Standing}
+use Rattle.tables.specs.Visit.{slot_of, width_of, tied, chosen, Ready, Standing}
 use Rattle.tables.specs.declared.visit.Visit.{Visit}
-use Rattle.tables.proofs.State.{tie_means, forget_state}
+use Rattle.tables.proofs.State.{tie_means}
 use Rattle.tables.proofs.StateTidy.{tidy_state, tidy_present}
 use Rattle.tables.proofs.StateWalk.{step_state, step_whole}
 
@@ -43,13 +43,6 @@ module _ {v : Visit} {j : ℕ} {s : List ℕ} (r : Ready v (suc j)) (h : Standin
 
   tied_whole : (t a : ℕ) → Whole s t a → Whole (tied v j c s) t a
   tied_whole t a w x l = ((tie_means h.state (slot_of v j) (width_of v j) c width_low here).present (spot t x)).1 (w x l)
-
-  pub released_state : State (released (slot_of v j) v.target (tied v j c s))
-  released_state = go (eqb (slot_of v j) v.target)
-    where
-      go : (b : Bool) → State (pick b (tied v j c s) (dropped (slot_of v j) (tied v j c s)))
-      go true = tied_state
-      go false = forget_state tied_state (slot_of v j) slot_low
 
   -- the slot is dropped, or it is the one looked at
   pub chosen_dropped : {u₁ u₂ u₃ : List ℕ} → u₁ ≡ tied v j c s → (slot_of v j ≡ v.target → ⊥) → u₂ ≡ dropped (slot_of v j) u₁ → u₃ ≡ tidied u₂ → u₃ ≡ chosen v j c s

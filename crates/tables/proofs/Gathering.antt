@@ -18,7 +18,7 @@ use Rattle.tables.specs.Visit.{turn_of, size_of, code_of, chosen, Yields, Gather
 use Rattle.members.specs.declared.Full.{Full}
 use Rattle.tables.specs.declared.visit.Visit.{Visit}
 use Rattle.tables.proofs.Memory.{kept_refl, put_turned, turned_map}
-use Rattle.tables.proofs.Rounds.{turned_done, Round, round_begun, round_next, round_full}
+use Rattle.tables.proofs.Rounds.{turned_done, Round, round_next, round_full}
 use Rattle.tables.proofs.StatesSeen.{found_has, stored_map, remember_stored}
 use Rattle.tables.proofs.Choosing.{ready_less, chosen_standing}
 
@@ -116,9 +116,6 @@ module _ (v : Visit) where
     pub record Looping (s₀ c₀ : List ℕ) (kept : List Level) (s c : List ℕ) (added : Bool) (i : ℕ) : Type 0 where
       pub round : (n : ℕ) → v.kind < n → Fine n (Has s₀ c₀) s₀ c₀ → Round n (OldOr s₀ c₀ v.kind (Yields v (suc j) u)) ChoiceIn s₀ c₀ s c added i
       pub seen : Stored (Done v s c) kept
-
-    pub loop_begun : {kept : List Level} {s c : List ℕ} → Request v (suc j) u kept s c → Looping s c kept s c false 0
-    loop_begun {kept} {s} {c} q = record { round = λ n h f. round_begun ChoiceIn (fine_widen (λ k x b m. inl m) f); seen = q.seen }
 
     module _ {s₀ c₀ : List ℕ} {kept₀ kept : List Level} {s c : List ℕ} {a : Bool} {i : ℕ} (q : Request v (suc j) u kept₀ s₀ c₀) (h : Looping s₀ c₀ kept s c a i) where
       now_round : Round q.order.kinds (OldOr s₀ c₀ v.kind (Yields v (suc j) u)) ChoiceIn s₀ c₀ s c a i

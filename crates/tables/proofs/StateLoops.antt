@@ -8,7 +8,7 @@ use native.Mathlib.Nat.{add_assoc, pow-suc}
 use native.Mathlib.Numerals.{add-one}
 use native.Mathlib.Omega.{arith}
 use native.Mathlib.Decide.{dec_lt}
-use borrow.Author.Tests.{eqb-true, lt-ltb, le-ltb}
+use borrow.Author.Tests.{eqb-true}
 use borrow.Rule.Slice.PartMut.{put_mid, mid_of}
 use lib.Dec.{eqb, ltb}
 use lib.Pow.{pow-add}
@@ -30,8 +30,8 @@ use Rattle.chains.proofs.Labels.{length_join_at, length_labels, labels_at}
 use Rattle.chains.proofs.Appearance.{index_at, index_first}
 use Rattle.chains.proofs.Codes.{length_unpack, unpack_at}
 use Rattle.chains.proofs.State.{get_d_any}
-use Rattle.book.specs.Format.{after_kids, arity_at, pairs_at, bytes_at, ties_of}
-use Rattle.book.specs.Reading.{settings_of, kind_in, to_at, from_at}
+use Rattle.book.specs.Format.{after_kids, pairs_at, bytes_at, ties_of}
+use Rattle.book.specs.Reading.{to_at, from_at}
 use Rattle.ranks.specs.Entries.{labels, none}
 use Rattle.tables.specs.State.{Low, State, spot, Readable, width_in, own, apart, based}
 
@@ -67,20 +67,6 @@ pub join_state : {l l' : List ℕ} (i j : ℕ) → State l → i < labels → l'
 join_state {l} i j h b e =
     let a : Low (get_or l i 0) = rw (get_d_any l i 0 none (omega (arith, h.long))) (h.low i) in
     rw e (record { long = length_join_at l i j ∙ h.long; low = λ o. relabel_low (get_or l i 0) (get_or l j 0) l o a (h.low o) })
-
--- ---- a production's own occurrences, read off its entry
-module _ (b : List ℕ) (at : ℕ) where
-  pub no_slot : {t n : ℕ} → n ≡ arity_at b at → n < t → 0 ≡ width_in b at t
-  no_slot {t} {n} e h = sym (rw (lt-ltb (arity_at b at) t (rw e at h)))
-
-  pub some_slot : {t n k w : ℕ} → n ≡ arity_at b at → t ≤ n → k ≡ kind_in b at t → w ≡ settings_of b k → w ≡ width_in b at t
-  some_slot {t} {n} {k} {w} e h p q = q ∙ ap (settings_of b) p ∙ sym (rw (le-ltb (arity_at b at) t (rw e at h)))
-
-  pub own_there : (o : ℕ) {a t w : ℕ} → a ≡ o % max_settings → t ≡ o / max_settings → w ≡ width_in b at t → a < w → o ≡ own b at o
-  own_there o {a} {t} {w} p q r h = sym (rw (lt-ltb (o % max_settings) (width_in b at (o / max_settings)) (rw (p, r, q) at h)))
-
-  pub own_missing : (o : ℕ) {a t w : ℕ} → a ≡ o % max_settings → t ≡ o / max_settings → w ≡ width_in b at t → w ≤ a → none ≡ own b at o
-  own_missing o {a} {t} {w} p q r h = sym (rw (le-ltb (o % max_settings) (width_in b at (o / max_settings)) (rw (p, r, q) at h)))
 
 -- ---- every occurrence by itself
 pub labels_snoc : (f : ℕ → ℕ) (k n : ℕ) → labelling.labels_by f k (suc n) ≡ labelling.labels_by f k n ++ f (k + n) ∷ []
@@ -161,9 +147,6 @@ module _ {b : List ℕ} {at : ℕ} {s : List ℕ} {i : ℕ} (h : Basing b at s i
   bytes_long : length (bytes_at b at) ≡ 2 * pairs_at b at
   bytes_long = length_part (after_kids b at + 1) (2 * pairs_at b at) b r.room
 
-  pub base_low : {x y : ℕ} → i < pairs_at b at → x ≡ to_at b at i → y ≡ from_at b at i → (x < labels) × (y < labels)
-  base_low l p q = (rw p (r.low i l).0, rw q (r.low i l).1)
-
   to_byte : i < pairs_at b at → get_or (bytes_at b at) (2 * i) 0 ≡ to_at b at i
   to_byte l = get_d_part (after_kids b at + 1) (2 * pairs_at b at) b (2 * i) 0 (omega arith)
 
@@ -194,11 +177,6 @@ module _ {b : List ℕ} {at : ℕ} {s : List ℕ} {i : ℕ} (h : Basing b at s i
 -- ---- a slot tied so far
 pub record Tying (s₀ : List ℕ) (t a c : ℕ) (s : List ℕ) (x : ℕ) : Type 0 where
   pub held : joins s (pairs_from t a c x (a - x)) ≡ joins s₀ (code_pairs t a c)
-
-pub tie_begun : (s : List ℕ) (t a c : ℕ) → Tying s t a c s 0
-tie_begun s t a c =
-    let e : a - 0 ≡ a = omega arith in
-    record { held = rw e }
 
 -- of x's label, the first setting is where the label first stands in the code
 leader : (a c x y : ℕ) → x < a → Least (λ k. label c k ≡ label c x) (x + 1) y → y ≡ index (label c x) (unpack a c)

@@ -179,14 +179,6 @@ pub record Tidying (s₀ s seen : List ℕ) (o : ℕ) : Type 0 where
   pub low : (i : ℕ) → o ≤ i → i < labels → Low (get_or s i 0)
   pub held : take o s ++ tidy_from seen (drop o s) ≡ tidied s₀
 
-pub tidy_begun : {s : List ℕ} → State s → Tidying s s [] 0
-tidy_begun {s} h = record {
-  few = omega arith;
-  long = h.long;
-  low = λ i a b. rw (get_d_any s i 0 none (omega (arith, h.long))) (h.low i);
-  held = refl;
-}
-
 -- the head of what is left has become k
 placed : (l seen seen' : List ℕ) (i k : ℕ) → i < length l → tidy_from seen (get_or l i 0 ∷ drop (suc i) l) ≡ k ∷ tidy_from seen' (drop (suc i) l)
     → take (i + 1) (set l i k) ++ tidy_from seen' (drop (i + 1) (set l i k)) ≡ take i l ++ tidy_from seen (drop i l)
@@ -254,9 +246,6 @@ pub record Viewing (l seen : List ℕ) (c x : ℕ) : Type 0 where
   pub few : length seen ≤ x
   pub small : c < 8 ^ x
   pub held : c + 8 ^ x * pack (canon_from seen (drop x l)) ≡ pack (canon l)
-
-pub view_begun : (l : List ℕ) → Viewing l [] 0 0
-view_begun l = record { few = omega arith; small = omega arith; held = omega arith }
 
 -- a label's weight, and that of the labels behind it
 weigh : (p k m : ℕ) → k * p + p * 8 * m ≡ p * (m * 8 + k)

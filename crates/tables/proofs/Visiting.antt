@@ -4,17 +4,14 @@ use mathlib.Core.Logic.{inl}
 use mathlib.Core.List.{List}
 use Prim.Native.Nat.{ℕ, zero, suc}
 use native.Mathlib.Omega.{arith}
-use lib.ListN.{replicate}
 use Rattle.std.specs.Prelude.{Bool, false, Result, Ok}
 use Rattle.lists.proofs.Order.{by_order}
 use Rattle.tables.specs.State.{based}
-use Rattle.tables.specs.Seen.{levels}
 use Rattle.tables.specs.declared.seen.Level.{Level}
-use Rattle.tables.specs.Visit.{size_of, code_of, chosen, Yields, Gathers, Done, Request, Reply, Barren, Prepared}
+use Rattle.tables.specs.Visit.{size_of, code_of, chosen, Yields, Gathers, Reply, Barren}
 use Rattle.members.specs.declared.Full.{Full}
 use Rattle.tables.specs.declared.visit.Visit.{Visit}
 use Rattle.tables.proofs.Memory.{kept_refl}
-use Rattle.tables.proofs.StatesSeen.{stored_none}
 use Rattle.tables.proofs.Gathering.{fine_widen}
 
 module _ (v : Visit) where
@@ -32,9 +29,5 @@ module _ (v : Visit) where
     case = (refl, refl, λ x y. absurd (none_yields j h u x y));
   }
 
-  module _ (b : List ℕ) (at : ℕ) {s c u : List ℕ} (e : u ≡ based b at) where
-    pub visit_request : (w : Level) → w.counter ≡ 0 → Prepared b at v s c → Request v v.opened u (replicate levels w) s c
-    visit_request w z h = record { ready = h.ready; standing = rw e h.standing; order = h.order; seen = stored_none (Done v s c) w z }
-
-    pub visit_done : {kept : List Level} {s' c' : List ℕ} {r : Result Bool Full} → Reply v v.opened u s c kept s' c' r → Gathers v.kind (Yields v v.opened (based b at)) s c s' c' r
-    visit_done {s' = s'} {c'} {r} p = subst (λ u. Gathers v.kind (Yields v v.opened u) s c s' c' r) e p.turned
+  pub visit_done : (b : List ℕ) (at : ℕ) {s c u : List ℕ} → u ≡ based b at → {kept : List Level} {s' c' : List ℕ} {r : Result Bool Full} → Reply v v.opened u s c kept s' c' r → Gathers v.kind (Yields v v.opened (based b at)) s c s' c' r
+  visit_done b at {s} {c} e {s' = s'} {c'} {r} p = subst (λ u. Gathers v.kind (Yields v v.opened u) s c s' c' r) e p.turned

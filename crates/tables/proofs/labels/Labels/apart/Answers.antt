@@ -11,6 +11,3 @@ loop-o-preserved c = lay_turn c.loop-o.invariant c.loop-o-test.true c.own.ensure
 
 pub invariant_of-result : goal.invariant_of-result
 invariant_of-result c = rw (lay_done c.loop-o.invariant c.loop-o-test.false c.loop-o.auto.o-end) (apart_low c.args.book.now c.args.at)
-
-pub returns : goal.returns
-returns c = lay_done c.loop-o.invariant c.loop-o-test.false c.loop-o.auto.o-end

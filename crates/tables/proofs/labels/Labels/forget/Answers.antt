@@ -5,6 +5,3 @@ use Rattle.tables.proofs.labels.Labels.forget.Goals as goal
 
 pub invariant_of-self : goal.invariant_of-self
 invariant_of-self c = rw (slot_emptied c.self.invariant c.args.slot c.requires _ (c.fill.ensures.after (λ y q. q))) (forget_state c.self.invariant c.args.slot c.requires)
-
-pub returns : goal.returns
-returns c = rw (← c.self.view_is) (slot_emptied c.self.invariant c.args.slot c.requires _ (c.fill.ensures.after (λ y q. q)))
