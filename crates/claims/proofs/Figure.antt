@@ -19,13 +19,13 @@ use Rattle.tables.specs.Entries.{picked, UpTable, DownTable}
 use Rattle.tables.specs.State.{based}
 use Rattle.tables.specs.Promise.{Lent}
 use Rattle.claims.specs.Examples.{book}
-use Rattle.claims.proofs.Tests.{all_below, all_in, all_ranks, same}
+use Rattle.claims.proofs.Tests.{all_below, all_ranks, same}
 use Rattle.claims.proofs.BookTest.{Fair, fair_sound, kind_test, kids_test, exists_test, target_test, sooner_test, rises_test, ties_test, headless_below}
 use Rattle.claims.proofs.Worked.{tie_all, tidy, rank_test, up_test, up_right, down_test, down_right}
 
 -- ── the book ──
 fair : Fair book
-unfolding entry ties_of all_below all_in kind_test kids_test exists_test target_test sooner_test rises_test ties_test headless_below
+unfolding entry ties_of all_below kind_test kids_test exists_test target_test sooner_test rises_test ties_test headless_below
 fair = record {
   known = refl;
   in_range = ranged;

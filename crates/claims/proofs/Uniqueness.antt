@@ -1,5 +1,10 @@
 -- UNIQUENESS, gathered: each call's theorem stands beside its promise.
-use mathlib.Core.Path.{◌≡◌, sym, ◌∙◌}
+use mathlib.Core.Path.{◌≡◌, refl, sym, ◌∙◌}
+use mathlib.Core.List.{[], ◌∷◌}
+use lib.ListN.{get_or}
+use Rattle.std.specs.Prelude.{Result}
+use Rattle.refusals.specs.declared.Refused.{Refused}
+use Rattle.refusals.proofs.Once.{said_by_once}
 use Rattle.bookcheck.proofs.Once as book
 use Rattle.book.proofs.Places.{index_once}
 use Rattle.sheet.proofs.Once as sheet
@@ -7,8 +12,7 @@ use Rattle.admission.proofs.Once.{admit_once}
 use Rattle.service.proofs.Word.{book_word_once, sheet_word_once}
 use Rattle.ranks.proofs.Measuring.{room_once}
 use Rattle.ranks.proofs.Finds.{read_up_once, read_down_once, child_rank_once, label_once, started_once}
-use Rattle.tables.specs.declared.Built.{Built}
-use Rattle.tables.specs.declared.Built.TheVariants as build
+use Rattle.tables.specs.declared.Counts as build_counts
 use Rattle.tables.specs.Answer as build_answer
 use Rattle.zeros.proofs.Once.{clear_once, wipe_once}
 use Rattle.slices.proofs.Once.{insert_once, relabel_once, lay_once}
@@ -17,24 +21,18 @@ use Rattle.members.proofs.Measuring.{too_short_once}
 use Rattle.blocks.proofs.Carried.{occurrences_once}
 use Rattle.blocks.proofs.SetMembers.{block_size_once, first_occurrence_once}
 use Rattle.tables.proofs.Promise.{build_once}
-use Rattle.numbering.specs.declared.Grouping.{Grouping}
-use Rattle.numbering.specs.declared.Grouping.TheVariants as call
+use Rattle.numbering.specs.declared.Counts as call_counts
 use Rattle.numbering.specs.Answer as call_answer
 use Rattle.claims.specs.Once.{OneOutcome}
 use Rattle.claims.proofs.CallOnce.{call_once}
 
 -- what an answer says is the whole of it
-built_once : (r s : Built) → build_answer.said r ≡ build_answer.said s → r ≡ s
-built_once (build.Accepted u d) (build.Accepted u' d') e = cc
-built_once (build.Accepted u d) (build.Refused n p) e = cc
-built_once (build.Refused n p) (build.Accepted u d) e = cc
-built_once (build.Refused n p) (build.Refused n' p') e = cc
+built_once : (r s : Result build_counts.Counts Refused) → build_answer.said r ≡ build_answer.said s → r ≡ s
+built_once = said_by_once (λ c. c.up ∷ c.down ∷ []) (λ l. record { up = get_or l 0 0; down = get_or l 1 0 }) (λ c. refl)
 
-grouping_once : (r s : Grouping) → call_answer.said r ≡ call_answer.said s → r ≡ s
-grouping_once (call.Accepted n s g) (call.Accepted n' s' g') e = cc
-grouping_once (call.Accepted n s g) (call.Refused q p) e = cc
-grouping_once (call.Refused q p) (call.Accepted n s g) e = cc
-grouping_once (call.Refused q p) (call.Refused q' p') e = cc
+grouping_once : (r s : Result call_counts.Counts Refused) → call_answer.said r ≡ call_answer.said s → r ≡ s
+grouping_once =
+    said_by_once (λ c. c.nodes ∷ c.settings ∷ c.groups ∷ []) (λ l. record { nodes = get_or l 0 0; settings = get_or l 1 0; groups = get_or l 2 0 }) (λ c. refl)
 
 -- THEOREM: every public call has one outcome
 pub one_outcome : OneOutcome

@@ -1,7 +1,7 @@
 -- What the tables hold, worked out: the codes and labels of a production by tying its slots one after another, and a test of whole tables that computes.
 use mathlib.Core.Path.{◌≡◌, refl, sym, ap, ◌∙◌, subst}
 use mathlib.Core.Logic.{◌↔◌}
-use mathlib.Core.Bool.{Bool, true, false}
+use mathlib.Core.Bool.{Bool, true, false, ◌&&◌}
 use mathlib.Core.List.{List, [], ◌∷◌}
 use Prim.Native.Nat.{ℕ, suc, ◌+◌, ◌*◌, ◌≤◌, ◌<◌}
 use native.Mathlib.Omega.{arith}
@@ -25,7 +25,8 @@ use Rattle.tables.specs.Entries.{picked, Upward, Downward, Ranked, UpTable, Labe
 use Rattle.tables.specs.State.{based, tidy_from, tidied}
 use Rattle.tables.proofs.FillState.{picked_long}
 use Rattle.tables.proofs.StateEntry.{Showing, show_base, show_skip, show_tie, show_says, show_labelled, Below, below_at, below_all, chosen_at, chosen_all}
-use Rattle.claims.proofs.Tests.{and, and_true, all_below, each_below, all_ranks, each_ranks, same, same_true}
+use Rattle.std.proofs.lemmas.Bool.{and_parts}
+use Rattle.claims.proofs.Tests.{all_below, each_below, all_ranks, each_ranks, same, same_true}
 
 -- the codes cs tied to the slots from t on
 unfoldable pub tie_all : Grammar → ℕ → ℕ → List ℕ → List ℕ → List ℕ
@@ -108,12 +109,12 @@ tidy_is (x ∷ l) seen = go (eqb x none) (tidy_is l)
 -- ── tables that are worked out so are right ──
 -- r is below the count of k, and the member there is x
 unfoldable pub rank_test : (s c : List ℕ) (k x r : ℕ) → Bool
-rank_test s c k x r = and (ltb r (get_or c k 0)) (eqb x (member s k r))
+rank_test s c k x r = ltb r (get_or c k 0) && eqb x (member s k r)
 
 rank_true : (s c : List ℕ) (A k x t r : ℕ) (R : Occ → Occ → Type 0) → Says A x (λ a b. R (t, a) (t, b)) → rank_test s c k x r ≡ true → Ranked s c A k t R r
 unfolding rank_test
 rank_true s c A k x t r R says e =
-    let (low, here) = and_true (ltb r (get_or c k 0)) (eqb x (member s k r)) e in
+    let (low, here) = and_parts (ltb r (get_or c k 0)) (eqb x (member s k r)) e in
     record { below = ltb-true r (get_or c k 0) low; says = subst (λ y. Says A y (λ a b. R (t, a) (t, b))) (eqb-true x (member s k r) here) says }
 
 module _ (b : List ℕ) (s c : List ℕ) where
@@ -149,8 +150,8 @@ module _ (b : List ℕ) (s c : List ℕ) where
 
     unfoldable pub down_test : List ℕ → ℕ → ℕ → List ℕ → Bool
     down_test down p u rs =
-        and (same (tidy (state_of p u rs) []) (take labels (entry_of down p u rs)))
-        (and (all_below (child_test down p u rs) (length ((grammar b).kids p))) (all_below (rest_test down p u rs) max_kids))
+        same (tidy (state_of p u rs) []) (take labels (entry_of down p u rs))
+        && (all_below (child_test down p u rs) (length ((grammar b).kids p)) && all_below (rest_test down p u rs) max_kids)
 
     -- THEOREM: and so the down table
     pub down_right : Accepted b → (down : List ℕ)
@@ -164,8 +165,8 @@ module _ (b : List ℕ) (s c : List ℕ) where
         let labels_same = same (tidy (state_of p u rs) []) (take labels (entry_of down p u rs)) in
         let ranks_same = all_below (child_test down p u rs) (length ((grammar b).kids p)) in
         let rest_same = all_below (rest_test down p u rs) max_kids in
-        let (e₁, e₂) = and_true labels_same (and ranks_same rest_same) here in
-        let (e₃, e₄) = and_true ranks_same rest_same e₂ in
+        let (e₁, e₂) = and_parts labels_same (ranks_same && rest_same) here in
+        let (e₃, e₄) = and_parts ranks_same rest_same e₂ in
         let x = member f ((grammar b).left p) u in
         let cs = picked s ((grammar b).kids p) rs in
         let long = picked_long c s ((grammar b).kids p) rs small in
