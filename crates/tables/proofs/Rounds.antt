@@ -4,12 +4,9 @@ use mathlib.Core.Bool.{Bool, true, false, ◌||◌}
 use mathlib.Core.List.{List}
 use Prim.Native.Nat.{ℕ, ◌+◌, ◌<◌}
 use native.Mathlib.Omega.{arith}
-use lib.ListN.{length}
 use borrow.Author.Count.{below_more}
 use Rattle.std.specs.Prelude.{Result, Ok, Err}
-use Rattle.chains.specs.Limits.{max_prods}
 use Rattle.tables.specs.Memory.{Fine, Turned}
-use Rattle.tables.specs.Sweep.{Attended}
 use Rattle.members.specs.declared.Full.{Full}
 use Rattle.tables.proofs.Memory.{kept_refl, kept_trans, turned_map, Lasts}
 
@@ -51,29 +48,3 @@ module _ {n : ℕ} {P : ℕ → ℕ → Type 0} (D : List ℕ → List ℕ → �
 pub round_full : {n : ℕ} {P : ℕ → ℕ → Type 0} {D E F : Type 0} {s₀ c₀ s c s' c' : List ℕ} {a : Bool} {o o' : Full} → Turned n P D s₀ c₀ s c (Ok a) → Turned n P E s c s' c' (Err o)
     → Turned n P F s₀ c₀ s' c' (Err o')
 round_full h u = record { fine = u.fine; kept = kept_trans h.kept u.kept; case = u.case }
-
--- ── a sweep: a turn for each production, and marks ──
-pub record OnSweep (n : ℕ) (P : ℕ → ℕ → Type 0) (D : List ℕ → List ℕ → ℕ → Type 0) (Marks : List ℕ → List ℕ → List ℕ → Type 0) (s₀ c₀ marks s c : List ℕ) (added : Bool) (p : ℕ) : Type 0 where
-  pub round : Round n P D s₀ c₀ s c added p
-  pub marked : Marks marks s c
-  pub long : length marks ≡ max_prods
-
-pub sweep_begun : {n : ℕ} {P : ℕ → ℕ → Type 0} (D : List ℕ → List ℕ → ℕ → Type 0) (Marks : List ℕ → List ℕ → List ℕ → Type 0) (marks : List ℕ) {s c : List ℕ} → Fine n P s c
-    → Marks marks s c → length marks ≡ max_prods → OnSweep n P D Marks s c marks s c false 0
-sweep_begun D Marks marks f m l = record { round = round_begun D f; marked = m; long = l }
-
-module _ {n : ℕ} {P : ℕ → ℕ → Type 0} (D : List ℕ → List ℕ → ℕ → Type 0) (Marks : List ℕ → List ℕ → List ℕ → Type 0) {s₀ c₀ : List ℕ} (marks : List ℕ) {s c : List ℕ} {a : Bool} {p : ℕ}
-    (h : OnSweep n P D Marks s₀ c₀ marks s c a p) where
-  pub sweep_next : (E : Type 0) (marks' : List ℕ) {s' c' : List ℕ} (b : Bool) → Lasts n D → Attended n P E (Marks marks') s c s' c' (Ok b) → (E → D s' c' p)
-      → length marks' ≡ length marks → OnSweep n P D Marks s₀ c₀ marks' s' c' (a || b) (p + 1)
-  sweep_next E marks' b lasts u serves same = record {
-    round = round_next D a b lasts h.round (turned_map (Ok b) serves u.turned);
-    marked = u.marked;
-    long = same ∙ h.long;
-  }
-
-  pub sweep_full : {E F : Type 0} {M M' : List ℕ → List ℕ → Type 0} {s' c' : List ℕ} {o o' : Full} → Attended n P E M s c s' c' (Err o) → Attended n P F M' s₀ c₀ s' c' (Err o')
-  sweep_full u = record { turned = round_full h.round u.turned; marked = tt }
-
-  pub sweep_done : (F : Type 0) → (((i : ℕ) → i < p → D s c i) → F) → Attended n P F (Marks marks) s₀ c₀ s c (Ok a)
-  sweep_done F g = record { turned = turned_map (Ok a) g h.round; marked = h.marked }

@@ -2,14 +2,14 @@
 -- hold on.
 use mathlib.Core.Path.{◌≡◌, refl, sym, ap, ap₂, ◌∙◌, subst}
 use mathlib.Core.Logic.{inl, inr}
-use mathlib.Core.Bool.{Bool, true, false}
+use mathlib.Core.Bool.{Bool, true, false, ◌||◌}
 use mathlib.Core.List.{List, Memᴰ}
 use Prim.Native.Nat.{ℕ, zero, suc, ◌+◌, ◌*◌, ◌≤◌, ◌<◌}
 use native.Mathlib.Numerals.{add-one}
 use native.Mathlib.Omega.{arith}
 use native.Mathlib.Decide.{ℕ_discrete}
-use lib.ListN.{length, get_or, set}
-use lib.Seq.{get_or-set_same, get_or-set_other}
+use lib.ListN.{length, get_or, set, take, replicate, length-set, length-replicate, get_or-replicate}
+use lib.Seq.{get_or-set_same, get_or-set_other, get_or-take, length-take-le}
 use Rattle.std.specs.Prelude.{Result, Ok, Err}
 use Rattle.lists.proofs.Order.{by_order}
 use Rattle.chains.specs.Limits.{max_prods, max_members}
@@ -17,10 +17,10 @@ use Rattle.members.specs.Sets.{Has}
 use Rattle.tables.specs.Sets.{Holds}
 use Rattle.tables.specs.Memory.{Fine, Kept, Turned, room}
 use Rattle.tables.specs.Visit.{Gathered}
-use Rattle.tables.specs.Sweep.{Since, Served, total, Marked, Attended, Swept, Exact}
+use Rattle.tables.specs.Sweep.{Steps, Lawful, Since, Served, total, Marked, AllServed, AllMarked, Closed, Attended, Swept, Exact}
 use Rattle.members.specs.declared.Full.{Full}
-use Rattle.tables.proofs.Memory.{kept_refl, kept_trans, equal_counts}
-use Rattle.tables.proofs.Rounds.{turned_done}
+use Rattle.tables.proofs.Memory.{kept_refl, kept_trans, equal_counts, turned_map}
+use Rattle.tables.proofs.Rounds.{turned_done, Round, round_begun, round_next, round_full}
 use Rattle.tables.proofs.Holds.{holds_fine}
 use Rattle.tables.proofs.Gathering.{fine_own}
 
@@ -82,103 +82,91 @@ pub since_now : {n : ℕ} {P : ℕ → ℕ → Type 0} (step : (ℕ → ℕ → 
     → Gathered k (step (Has s c)) s' c' → Since n step k s c s' c'
 since_now {n} step {s = s} {c} f u g = record { sets = s; counts = c; earlier = kept_refl n s c; fine = fine_own f; later = u; gathered = g }
 
--- what the step gives hangs on the watched kinds alone
-abbrev pub Watches : ((ℕ → ℕ → Type 0) → ℕ → Type 0) → (ℕ → ℕ) → ℕ → Type 1
-Watches step watch w = (A B : ℕ → ℕ → Type 0) → ((i x : ℕ) → i < w → A (watch i) x → B (watch i) x) → (x : ℕ) → step A x → step B x
-
-module _ {n : ℕ} {P : ℕ → ℕ → Type 0} {step : (ℕ → ℕ → Type 0) → ℕ → Type 0} {k : ℕ} {s₀ c₀ s c : List ℕ} (f : Fine n P s c) (watch : ℕ → ℕ) (w : ℕ)
-    (known : (i : ℕ) → i < w → watch i < n) (local : Watches step watch w) where
-  -- THEOREM: where the watched kinds have no member more than then, all that the step gives now is in
-  pub since_closed : total c₀ watch w ≡ total c watch w → Since n step k s₀ c₀ s c → Gathered k (step (Has s c)) s c
-  since_closed e o x q = o.gathered x (local (Has s c) (Has o.sets o.counts) same x q)
-    where
-      same : (i x : ℕ) → i < w → Has s c (watch i) x → Has o.sets o.counts (watch i) x
-      same i x l m =
-          let t = total_same (kept_trans o.earlier o.later) watch w e i l in
-          let a = o.earlier.grows (watch i) in
-          let b = o.later.grows (watch i) in
-          let z : get_or o.counts (watch i) 0 ≡ get_or c (watch i) 0 = omega arith in
-          subst (Memᴰ x) (equal_counts o.later o.fine f (watch i) (known i l) z) m
-
--- ---- marks
-module _ {n m : ℕ} {step : ℕ → (ℕ → ℕ → Type 0) → ℕ → Type 0} {into watch : ℕ → ℕ} {w : ℕ} (targets : (j : ℕ) → j < m → into j < n) where
-  pub marked_later : {mark : ℕ} {s c s' c' : List ℕ} → Kept n s c s' c' → Marked n m step into watch w mark s c → Marked n m step into watch w mark s' c'
-  marked_later u (inl z) = inl z
-  marked_later u (inr v) = inr (record {
-    sets = v.sets;
-    counts = v.counts;
-    later = kept_trans v.later u;
-    mark_is = v.mark_is;
-    served = λ j l. since_later (targets j l) (v.served j l) u;
-  })
-
-  -- the mark of a visit
-  pub mark_visit : {mark : ℕ} {s c s' c' : List ℕ} → Kept n s c s' c' → mark ≡ suc (total c watch w) → Served n m step into s c s' c'
-      → Marked n m step into watch w mark s' c'
-  mark_visit {s = s} {c} u e d = inr (record { sets = s; counts = c; later = u; mark_is = e; served = d })
-
--- THEOREM: a production whose mark is what it would be now is served as it stands
-pub marked_served : {n m : ℕ} {P : ℕ → ℕ → Type 0} {step : ℕ → (ℕ → ℕ → Type 0) → ℕ → Type 0} {into watch : ℕ → ℕ} {w mark : ℕ} {s c : List ℕ} → Fine n P s c
-    → ((i : ℕ) → i < w → watch i < n) → ((j : ℕ) → j < m → Watches (step j) watch w) → mark ≡ suc (total c watch w)
-    → Marked n m step into watch w mark s c → Served n m step into s c s c
-marked_served f known local e (inl z) j l = absurd (omega arith)
-marked_served {step = step} {watch = watch} {w} {s = s} {c} f known local e (inr v) j l =
-    let q : total v.counts watch w ≡ total c watch w = omega (arith, v.mark_is) in
-    since_now (step j) f (kept_refl _ s c) (since_closed f watch w known (local j l) q (v.served j l))
-
 -- ---- a production's turn
--- production q has m q steps and watches w q kinds
-module _ (n prods : ℕ) (m w : ℕ → ℕ) (step : ℕ → ℕ → (ℕ → ℕ → Type 0) → ℕ → Type 0) (into watch : ℕ → ℕ → ℕ) where
-  abbrev pub AllMarked : (marks s c : List ℕ) → Type 0
-  AllMarked marks s c = (q : ℕ) → q < prods → Marked n (m q) (step q) (into q) (watch q) (w q) (get_or marks q 0) s c
+module _ {q : Steps} (w : Lawful q) {p : ℕ} (l : p < q.prods) where
+  -- THEOREM: where the watched kinds have no member more than then, all that a step gives now is in
+  pub served_closed : {P : ℕ → ℕ → Type 0} {s₀ c₀ s c : List ℕ} → Fine q.kinds P s c → total c₀ (q.watch p) (q.watches p) ≡ total c (q.watch p) (q.watches p)
+      → Served q p s₀ c₀ s c → (j : ℕ) → j < q.many p → Gathered (q.into p j) (q.step p j (Has s c)) s c
+  served_closed {P} {s₀} {c₀} {s} {c} f e d j h = closed (d j h)
+    where
+      closed : Since q.kinds (q.step p j) (q.into p j) s₀ c₀ s c → Gathered (q.into p j) (q.step p j (Has s c)) s c
+      closed o x y = o.gathered x (w.local p j l h s c o.sets o.counts same x y)
+        where
+          same : (i x : ℕ) → i < q.watches p → Has s c (q.watch p i) x → Has o.sets o.counts (q.watch p i) x
+          same i x k m =
+              let t = total_same (kept_trans o.earlier o.later) (q.watch p) (q.watches p) e i k in
+              let a = o.earlier.grows (q.watch p i) in
+              let b = o.later.grows (q.watch p i) in
+              let z : get_or o.counts (q.watch p i) 0 ≡ get_or c (q.watch p i) 0 = omega arith in
+              subst (Memᴰ x) (equal_counts o.later o.fine f (q.watch p i) (w.watch_in p i l k) z) m
 
-  module _ {P : ℕ → ℕ → Type 0} {s c : List ℕ} {p mark : ℕ} (marks : List ℕ) (l : p < prods) (f : Fine n P s c) (old : AllMarked marks s c)
-      (e : mark ≡ suc (total c (watch p) (w p))) where
-    -- THEOREM: it may be passed over where its mark is what it would be now
-    pub spared : ((i : ℕ) → i < w p → watch p i < n) → ((j : ℕ) → j < m p → Watches (step p j) (watch p) (w p)) → get_or marks p 0 ≡ mark
-        → Attended n P (Served n (m p) (step p) (into p) s c s c) (AllMarked marks) s c s c (Ok false)
-    spared known local q = record {
-      turned = record { fine = f; kept = kept_refl n s c; case = (refl, refl, marked_served f known local (q ∙ e) (old p l)) };
-      marked = old;
-    }
+  pub served_later : {s₀ c₀ s c s' c' : List ℕ} → Kept q.kinds s c s' c' → Served q p s₀ c₀ s c → Served q p s₀ c₀ s' c'
+  served_later u d j h = since_later (w.into_in p j l h) (d j h) u
 
-    -- THEOREM: once it is served it may be marked
-    pub attended : ((q j : ℕ) → q < prods → j < m q → into q j < n) → prods ≤ length marks → {s' c' marks' : List ℕ} (r : Result Bool Full) → marks' ≡ set marks p mark
-        → Turned n P (Served n (m p) (step p) (into p) s c s' c') s c s' c' r → Attended n P (Served n (m p) (step p) (into p) s c s' c') (AllMarked marks') s c s' c' r
-    attended targets long {s'} {c'} {marks'} (Err o) z u = record { turned = u; marked = tt }
-    attended targets long {s'} {c'} {marks'} (Ok r) z u = record { turned = u; marked = λ q h. go q h (turned_done r u) (ℕ_discrete q p) }
-      where
-        go : (q : ℕ) → q < prods → Served n (m p) (step p) (into p) s c s' c' → Dec (q ≡ p)
-            → Marked n (m q) (step q) (into q) (watch q) (w q) (get_or marks' q 0) s' c'
-        go q h d (yes y) = rw (y, z, get_or-set_same marks p mark 0 (omega arith)) (mark_visit (λ j k. targets p j l k) u.kept e d)
-        go q h d (no y) = rw (z, get_or-set_other marks p q mark 0 y) (marked_later (λ j k. targets q j h k) u.kept (old q h))
+  pub marked_later : {mark : ℕ} {s c s' c' : List ℕ} → Kept q.kinds s c s' c' → Marked q p mark s c → Marked q p mark s' c'
+  marked_later u (inl z) = inl z
+  marked_later u (inr v) = inr (record { sets = v.sets; counts = v.counts; later = kept_trans v.later u; mark_is = v.mark_is; served = served_later u v.served })
+
+  module _ {s c : List ℕ} {mark : ℕ} (f : Fine q.kinds q.may s c) (e : mark ≡ suc (total c (q.watch p) (q.watches p))) where
+    -- THEOREM: a production whose mark is what it would be now is served as it stands
+    marked_served : Marked q p mark s c → Served q p s c s c
+    marked_served (inl z) j h = absurd (omega arith)
+    marked_served (inr v) j h =
+        let t : total v.counts (q.watch p) (q.watches p) ≡ total c (q.watch p) (q.watches p) = omega (arith, v.mark_is) in
+        since_now (q.step p j) f (kept_refl q.kinds s c) (served_closed f t v.served j h)
+
+    -- THEOREM: so it may be passed over
+    pub spared : Marked q p mark s c → Attended q.kinds q.may (Served q p s c s c) (Marked q p mark) s c s c (Ok false)
+    spared m = record { turned = record { fine = f; kept = kept_refl q.kinds s c; case = (refl, refl, marked_served m) }; marked = m }
+
+-- ---- a sweep
+-- what the turn of a production is to bring about, from s₀, c₀ on
+abbrev pub InTurn : Steps → (s₀ c₀ s c : List ℕ) → ℕ → Type 0
+InTurn q s₀ c₀ s c p = p < q.prods → Served q p s₀ c₀ s c
+
+pub record OnSweep (q : Steps) (s₀ c₀ marks s c : List ℕ) (added : Bool) (p : ℕ) : Type 0 where
+  pub round : Round q.kinds q.may (InTurn q s₀ c₀) s₀ c₀ s c added p
+  pub marked : AllMarked q marks s c
+  pub long : length marks ≡ q.prods
+
+pub sweep_begun : {q : Steps} {marks s c : List ℕ} → Fine q.kinds q.may s c → AllMarked q marks s c → length marks ≡ q.prods → OnSweep q s c marks s c false 0
+sweep_begun {q} {s = s} {c} f m l = record { round = round_begun (InTurn q s c) f; marked = m; long = l }
+
+module _ {q : Steps} {s₀ c₀ marks s c : List ℕ} {a : Bool} {p : ℕ} (h : OnSweep q s₀ c₀ marks s c a p) where
+  pub sweep_next : Lawful q → p < q.prods → {mark : ℕ} {s' c' : List ℕ} (b : Bool) → Attended q.kinds q.may (Served q p s c s' c') (Marked q p mark) s c s' c' (Ok b)
+      → OnSweep q s₀ c₀ (set marks p mark) s' c' (a || b) (p + 1)
+  sweep_next w l {mark} {s'} {c'} b u = record {
+    round = round_next (InTurn q s₀ c₀) a b (λ s c s' c' i k d o. served_later w o k (d o)) h.round
+        (turned_map (Ok b) (λ d o j z. since_earlier h.round.kept (d j z)) u.turned);
+    marked = λ i o. mark_of i o (ℕ_discrete i p);
+    long = length-set marks p mark ∙ h.long;
+  }
+    where
+      mark_of : (i : ℕ) → i < q.prods → Dec (i ≡ p) → Marked q i (get_or (set marks p mark) i 0) s' c'
+      mark_of i o (yes y) = rw (y, get_or-set_same marks p mark 0 (omega (arith, h.long))) u.marked
+      mark_of i o (no y) = rw (get_or-set_other marks p i mark 0 y) (marked_later w o u.turned.kept (h.marked i o))
+
+  pub sweep_full : {D E : Type 0} {M M' : List ℕ → List ℕ → Type 0} {s' c' : List ℕ} {o o' : Full} → Attended q.kinds q.may D M s c s' c' (Err o)
+      → Attended q.kinds q.may E M' s₀ c₀ s' c' (Err o')
+  sweep_full u = record { turned = round_full h.round u.turned; marked = tt }
+
+  pub sweep_done : q.prods ≤ p → Attended q.kinds q.may (AllServed q s₀ c₀ s c) (AllMarked q marks) s₀ c₀ s c (Ok a)
+  sweep_done l = record { turned = turned_map (Ok a) (λ d i o. d i (omega arith) o) h.round; marked = h.marked }
 
 -- ---- sweeps until one adds nothing
-pub record Closing (n : ℕ) (P : ℕ → ℕ → Type 0) (Marks : List ℕ → List ℕ → List ℕ → Type 0) (s₀ c₀ marks s c : List ℕ) : Type 0 where
-  pub fine : Fine n P s c
-  pub kept : Kept n s₀ c₀ s c
-  pub marked : Marks marks s c
-  pub long : length marks ≡ max_prods
+pub record Closing (q : Steps) (s₀ c₀ marks s c : List ℕ) : Type 0 where
+  pub fine : Fine q.kinds q.may s c
+  pub kept : Kept q.kinds s₀ c₀ s c
+  pub marked : AllMarked q marks s c
+  pub long : length marks ≡ q.prods
 
-pub close_begun : {n : ℕ} {P : ℕ → ℕ → Type 0} (Marks : List ℕ → List ℕ → List ℕ → Type 0) (marks : List ℕ) {s c : List ℕ} → Fine n P s c → Marks marks s c → length marks ≡ max_prods
-    → Closing n P Marks s c marks s c
-close_begun {n} Marks marks {s} {c} f m l = record { fine = f; kept = kept_refl n s c; marked = m; long = l }
-
-module _ {n : ℕ} {P : ℕ → ℕ → Type 0} {Marks : List ℕ → List ℕ → List ℕ → Type 0} {s₀ c₀ marks s c : List ℕ} (h : Closing n P Marks s₀ c₀ marks s c)
-    {E : Type 0} {marks' s' c' : List ℕ} where
-  pub close_added : Attended n P E (Marks marks') s c s' c' (Ok true) → length marks' ≡ length marks → Closing n P Marks s₀ c₀ marks' s' c'
-  close_added u same = record { fine = u.turned.fine; kept = kept_trans h.kept u.turned.kept; marked = u.marked; long = same ∙ h.long }
-
-  pub close_still : {C : Type 0} → (Fine n P s' c' → s' ≡ s → c' ≡ c → E → C) → Attended n P E (Marks marks') s c s' c' (Ok false) → Swept n P C s₀ c₀ s' c' (Ok tt)
-  close_still g u = record {
-    fine = u.turned.fine;
-    kept = kept_trans h.kept u.turned.kept;
-    closed = let (a, b, d) = u.turned.case in g u.turned.fine a b d;
-    over = tt;
-  }
-
-  pub close_full : {C : Type 0} {o o' : Full} → Attended n P E (Marks marks') s c s' c' (Err o) → Swept n P C s₀ c₀ s' c' (Err o')
-  close_full u = record { fine = u.turned.fine; kept = kept_trans h.kept u.turned.kept; closed = tt; over = u.turned.case }
+pub close_begun : {q : Steps} {s c : List ℕ} {n : ℕ} → Lawful q → n ≡ q.prods → Fine q.kinds q.may s c → Closing q s c (take n (replicate max_prods 0)) s c
+close_begun {q} {s} {c} {n} w e f = record {
+  fine = f;
+  kept = kept_refl q.kinds s c;
+  marked = λ p l. inl (get_or-take n (replicate max_prods 0) p 0 (omega arith) ∙ get_or-replicate {A = ℕ} max_prods p 0 0 (omega (arith, w.few)));
+  long = length-take-le n (replicate max_prods 0) (omega (arith, w.few, length-replicate {A = ℕ} max_prods 0)) ∙ e;
+}
 
 -- ---- a pass after a pass
 -- sets that hold exactly what has P, whatever stood there before

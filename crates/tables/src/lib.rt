@@ -10,6 +10,7 @@ mod ranked;
 mod seen;
 mod sets;
 mod shape;
+mod sweep;
 mod totals;
 mod upward;
 mod visit;
