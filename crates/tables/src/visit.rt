@@ -4,9 +4,6 @@ use super::seen::{LEVELS, Level};
 use super::sets::{MAX_MEMBERS, copy_members};
 use members::Full;
 
-// A mark for each production, by which a visit is spared.
-pub const MARKS: usize = book::limits::MAX_PRODUCTIONS as usize;
-
 // A choice of a code for a slot: the slot's number of settings, and the codes of its kind as they stood when the turn was opened.
 #[derive(Clone, Copy)]
 pub struct Turn {
