@@ -119,6 +119,16 @@ module _ {q : Steps} (w : Lawful q) {p : ℕ} (l : p < q.prods) where
     pub spared : Marked q p mark s c → Attended q.kinds q.may (Served q p s c s c) (Marked q p mark) s c s c (Ok false)
     spared m = record { turned = record { fine = f; kept = kept_refl q.kinds s c; case = (refl, refl, marked_served m) }; marked = m }
 
+-- ---- the steps of a production, one by one
+-- what step j is to bring about, from s₀, c₀ on
+abbrev pub InStep : Steps → ℕ → (s₀ c₀ s c : List ℕ) → ℕ → Type 0
+InStep q p s₀ c₀ s c j = j < q.many p → Since q.kinds (q.step p j) (q.into p j) s₀ c₀ s c
+
+module _ {q : Steps} (w : Lawful q) {p : ℕ} (l : p < q.prods) {s₀ c₀ s c : List ℕ} {a : Bool} {j : ℕ} where
+  pub step_next : {s' c' : List ℕ} (b : Bool) → Round q.kinds q.may (InStep q p s₀ c₀) s₀ c₀ s c a j
+      → Turned q.kinds q.may (Since q.kinds (q.step p j) (q.into p j) s c s' c') s c s' c' (Ok b) → Round q.kinds q.may (InStep q p s₀ c₀) s₀ c₀ s' c' (a || b) (j + 1)
+  step_next b h u = round_next (InStep q p s₀ c₀) a b (λ s c s' c' i k d m. since_later (w.into_in p i l m) (d m) k) h (turned_map (Ok b) (λ d m. since_earlier h.kept d) u)
+
 -- ---- a sweep
 -- what the turn of a production is to bring about, from s₀, c₀ on
 abbrev pub InTurn : Steps → (s₀ c₀ s c : List ℕ) → ℕ → Type 0

@@ -32,7 +32,7 @@ fn passes(
         plausible.new counts.new feasible.new tally.new (said_by (λ _. []) result) }
 {
     upward(book, places, plausible, counts).map_err(|_| Refusal::ManyPlausible.at(0))?;
-    downward(book, places, plausible, counts, feasible, tally).map_err(|_| Refusal::ManyFeasible.at(
+    downward(book, places, Sets { codes: plausible, counts }, feasible, tally).map_err(|_| Refusal::ManyFeasible.at(
         0,
     ))
 }

@@ -9,7 +9,7 @@ ghost use Rattle.tables.specs.Shape.{Opened};
 ghost use Rattle.tables.specs.Visit.{Opening};
 ghost use Rattle.tables.specs.Sweep.{Outcome};
 
-use super::sets::MAX_MEMBERS;
+use super::sets::clear;
 use super::sweep::{Pass, close};
 use super::visit::Visit;
 use members::Full;
@@ -71,8 +71,6 @@ pub fn upward(
     ensures { Outcome (kinds book.now) (Plausible (grammar book.now))
         sets.old counts.old sets.new counts.new result }
 {
-    let n = book::kinds(book) as usize;
-    zeros::clear(sets, n * MAX_MEMBERS);
-    zeros::clear(counts, n);
+    clear(book, sets, counts);
     close(&Upwards { book, places }, sets, counts)
 }
