@@ -1,21 +1,21 @@
 -- A production's turn in a sweep of the downward pass, the sweep, and the pass.
-use mathlib.Core.Path.{◌≡◌, sym, ap}
+use mathlib.Core.Path.{◌≡◌}
 use mathlib.Core.Logic.{inl, inr}
-use mathlib.Core.Bool.{Bool, false}
+use mathlib.Core.Bool.{Bool}
 use mathlib.Core.List.{List}
 use Prim.Native.Nat.{ℕ, suc, ◌+◌, ◌*◌, ◌≤◌, ◌<◌}
 use native.Mathlib.Omega.{arith}
-use lib.ListN.{length, get_or, set, replicate, get_or-replicate}
-use Rattle.std.specs.Prelude.{Result, Ok}
+use lib.ListN.{length, get_or}
+use Rattle.std.specs.Prelude.{Result}
 use Rattle.std.proofs.lemmas.Result.{on_ok_weaker}
-use Rattle.chains.specs.Limits.{max_prods, max_members}
+use Rattle.chains.specs.Limits.{max_members}
 use Rattle.chains.specs.Plausible.{Plausible}
 use Rattle.chains.specs.Feasible.{Feasible}
 use Rattle.chains.specs.Steps.{StepDown}
 use Rattle.chains.proofs.Feasible.{ClosedDown, feasible_sound, feasible_complete}
 use Rattle.book.specs.Format.{kinds, prods, start, grammar}
 use Rattle.members.specs.Sets.{Has}
-use Rattle.tables.specs.Memory.{Fine, Kept, Turned}
+use Rattle.tables.specs.Memory.{Fine, Turned}
 use Rattle.zeros.specs.Zeros.{cleared}
 use Rattle.tables.specs.Visit.{Gathered, OldOr}
 use Rattle.tables.specs.Shape.{Opened}

@@ -1,14 +1,14 @@
 -- Attempts one after another: each brings something about, which lasts, until all are made or some set is over-full.
-use mathlib.Core.Path.{◌≡◌, refl, ◌∙◌}
+use mathlib.Core.Path.{refl, ◌∙◌}
 use mathlib.Core.Bool.{Bool, true, false, ◌||◌}
 use mathlib.Core.List.{List}
 use Prim.Native.Nat.{ℕ, ◌+◌, ◌<◌}
 use native.Mathlib.Omega.{arith}
 use borrow.Author.Count.{below_more}
-use Rattle.std.specs.Prelude.{Result, Ok, Err}
+use Rattle.std.specs.Prelude.{Ok, Err}
 use Rattle.tables.specs.Memory.{Fine, Turned}
 use Rattle.members.specs.declared.Full.{Full}
-use Rattle.tables.proofs.Memory.{kept_refl, kept_trans, turned_map, Lasts}
+use Rattle.tables.proofs.Memory.{kept_refl, kept_trans, Lasts}
 
 -- where no set is over-full, what a turn was to bring about holds
 pub turned_done : {n : ℕ} {P : ℕ → ℕ → Type 0} {D : Type 0} {s c s' c' : List ℕ} (added : Bool) → Turned n P D s c s' c' (Ok added) → D

@@ -1,8 +1,8 @@
 -- The laws of sweeps: what was served stays so; where the watched kinds have no member more, it is served for the sets as they stand; and marks
 -- hold on.
-use mathlib.Core.Path.{◌≡◌, refl, sym, ap, ap₂, ◌∙◌, subst}
+use mathlib.Core.Path.{◌≡◌, refl, ap, ap₂, ◌∙◌, subst}
 use mathlib.Core.Logic.{inl, inr}
-use mathlib.Core.Bool.{Bool, true, false, ◌||◌}
+use mathlib.Core.Bool.{Bool, false, ◌||◌}
 use mathlib.Core.List.{List, Memᴰ}
 use Prim.Native.Nat.{ℕ, zero, suc, ◌+◌, ◌*◌, ◌≤◌, ◌<◌}
 use native.Mathlib.Numerals.{add-one}
@@ -10,17 +10,17 @@ use native.Mathlib.Omega.{arith}
 use native.Mathlib.Decide.{ℕ_discrete}
 use lib.ListN.{length, get_or, set, take, replicate, length-set, length-replicate, get_or-replicate}
 use lib.Seq.{get_or-set_same, get_or-set_other, get_or-take, length-take-le}
-use Rattle.std.specs.Prelude.{Result, Ok, Err}
+use Rattle.std.specs.Prelude.{Ok, Err}
 use Rattle.lists.proofs.Order.{by_order}
 use Rattle.chains.specs.Limits.{max_prods, max_members}
 use Rattle.members.specs.Sets.{Has}
 use Rattle.tables.specs.Sets.{Holds}
-use Rattle.tables.specs.Memory.{Fine, Kept, Turned, room}
+use Rattle.tables.specs.Memory.{Fine, Kept, Turned}
 use Rattle.tables.specs.Visit.{Gathered}
-use Rattle.tables.specs.Sweep.{Steps, Lawful, Since, Served, total, Marked, AllServed, AllMarked, Closed, Attended, Swept, Exact}
+use Rattle.tables.specs.Sweep.{Steps, Lawful, Since, Served, total, Marked, AllServed, AllMarked, Attended, Exact}
 use Rattle.members.specs.declared.Full.{Full}
 use Rattle.tables.proofs.Memory.{kept_refl, kept_trans, equal_counts, turned_map}
-use Rattle.tables.proofs.Rounds.{turned_done, Round, round_begun, round_next, round_full}
+use Rattle.tables.proofs.Rounds.{Round, round_begun, round_next, round_full}
 use Rattle.tables.proofs.Holds.{holds_fine}
 use Rattle.tables.proofs.Gathering.{fine_own}
 

@@ -1,9 +1,9 @@
 -- The steps of the upward pass, and the pass.
-use mathlib.Core.Path.{◌≡◌, sym, ap, ◌∙◌}
+use mathlib.Core.Path.{◌≡◌, ap, ◌∙◌}
 use mathlib.Core.Logic.{inl, inr}
 use mathlib.Core.Bool.{Bool}
 use mathlib.Core.List.{List, [], ◌∷◌}
-use Prim.Native.Nat.{ℕ, suc, ◌+◌, ◌*◌, ◌≤◌, ◌<◌}
+use Prim.Native.Nat.{ℕ, suc, ◌*◌, ◌≤◌, ◌<◌}
 use native.Mathlib.Omega.{arith}
 use lib.ListN.{length, get_or}
 use Rattle.std.specs.Prelude.{Result}
@@ -28,7 +28,7 @@ use Rattle.tables.proofs.Memory.{turned_map}
 use Rattle.tables.proofs.Holds.{fine_holds}
 use Rattle.tables.proofs.Gathering.{turned_widen}
 use Rattle.tables.proofs.StateBase.{few_kids}
-use Rattle.tables.proofs.Sweeping.{total_agree, total_none, total_more, since_now}
+use Rattle.tables.proofs.Sweeping.{total_agree, since_now}
 
 -- codes of some kinds, in other sets that have them
 pub members_change : (A B : ℕ → ℕ → Type 0) (ks cs : List ℕ) → ((i x : ℕ) → i < length ks → A (get_or ks i 0) x → B (get_or ks i 0) x) → Members A ks cs → Members B ks cs

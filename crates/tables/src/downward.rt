@@ -86,13 +86,7 @@ impl<'a> Downwards<'a> {
     }
 
     // All results of production p, over the sets as they stand, put into the set of its child j, from 0 on.
-    fn visit(
-        &self,
-        p: usize,
-        j: u8,
-        feasible: &mut [u32],
-        tally: &mut [u8],
-    ) -> Result<bool, Full>
+    fn visit(&self, p: usize, j: u8, feasible: &mut [u32], tally: &mut [u8]) -> Result<bool, Full>
         requires { let q = down_steps self.now.book.now self.now.places.now self.now.plausible.codes.now self.now.plausible.counts.now in
             q.leans × (p < q.prods) × (j < q.many p) × Fine q.kinds q.may feasible.old tally.old }
         ensures { let q = down_steps self.now.book.now self.now.places.now self.now.plausible.codes.now self.now.plausible.counts.now in
@@ -104,7 +98,8 @@ impl<'a> Downwards<'a> {
             codes: feasible,
             counts: tally,
         };
-        self.prepare(at, j + 1, sets).make(self.book, at, feasible, tally)
+        self.prepare(at, j + 1, sets)
+            .make(self.book, at, feasible, tally)
     }
 }
 

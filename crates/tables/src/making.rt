@@ -2,8 +2,6 @@
 ghost use Rattle.std.specs.Prelude.{[], length};
 ghost use Rattle.refusals.specs.Table.{said_by};
 ghost use Rattle.book.specs.Format.{kinds, grammar};
-ghost use Rattle.book.specs.Reading.{Index};
-ghost use Rattle.bookcheck.specs.Accepted.{Accepted};
 ghost use Rattle.members.specs.Room.{Roomy};
 ghost use Rattle.tables.specs.Answer.{said, lent};
 ghost use Rattle.tables.specs.Shape.{Opened};
@@ -27,14 +25,16 @@ fn passes(
     feasible: &mut [u32],
     tally: &mut [u8],
 ) -> Result<(), Refused>
-    requires { Accepted book.now × Index book.now places.now × Roomy (kinds book.now) (length plausible.old) (length counts.old) (length feasible.old) (length tally.old) }
+    requires { Opened book.now places.now × Roomy (kinds book.now) (length plausible.old) (length counts.old) (length feasible.old) (length tally.old) }
     ensures { Passed book.now plausible.old counts.old feasible.old tally.old
         plausible.new counts.new feasible.new tally.new (said_by (λ _. []) result) }
 {
     upward(book, places, plausible, counts).map_err(|_| Refusal::ManyPlausible.at(0))?;
-    downward(book, places, Sets { codes: plausible, counts }, feasible, tally).map_err(|_| Refusal::ManyFeasible.at(
-        0,
-    ))
+    let plausible = Sets {
+        codes: plausible,
+        counts,
+    };
+    downward(book, places, plausible, feasible, tally).map_err(|_| Refusal::ManyFeasible.at(0))
 }
 
 // Both tables, over the sets as they stand; nothing is written unless both fit.
@@ -80,8 +80,8 @@ pub fn make(
         (lent plausible.new counts.new feasible.new tally.new up.new down.new) }
 {
     let index = book::index(book);
-    passes(book, &index, plausible, counts, feasible, tally)?;
     let places = &index[..book::productions(book) as usize];
+    passes(book, places, plausible, counts, feasible, tally)?;
     let plausible = Sets {
         codes: plausible,
         counts,

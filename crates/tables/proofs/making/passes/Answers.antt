@@ -19,9 +19,9 @@ returns-in_err-map_err c =
 
 pub downward-requires : goal.downward-requires
 downward-requires c =
-    let (a, i, r) = c.requires in
+    let (i, r) = c.requires in
     let u = c.upward.ensures in
-    (a, i, holds_exact r.plausible r.plausible_counts (was_done c.upward.result u.holds c.in_ok-map_err.ensures.variant), r.feasible, r.feasible_counts)
+    (i, holds_exact r.plausible r.plausible_counts (was_done c.upward.result u.holds c.in_ok-map_err.ensures.variant), r.feasible, r.feasible_counts)
 
 pub returns : goal.returns
 returns c =

@@ -1,8 +1,6 @@
 -- Both slices of the sets cleared, as far as the book's kinds go. Assumes nothing.
-use mathlib.Core.Path.{◌≡◌, ap, ◌∙◌}
-use Prim.Native.Nat.{ℕ, ◌*◌}
+use mathlib.Core.Path.{◌≡◌, ◌∙◌}
 use native.Mathlib.Omega.{arith}
-use Rattle.chains.specs.Limits.{max_members}
 use Rattle.book.specs.Format.{kinds}
 use Rattle.bookcheck.proofs.Accepted.{told_kinds}
 use Rattle.zeros.proofs.Cleared.{clears}

@@ -1,5 +1,4 @@
 -- What is watched downward: the left kind's count. Assumes nothing.
-use native.Mathlib.Omega.{arith}
 use Rattle.tables.proofs.DownwardSweep.{down_watched}
 use Rattle.tables.proofs.downward.DownwardsPass.watched.Goals as goal
 
