@@ -96,6 +96,7 @@ module _ (G : Grammar) (c : List ℕ) where
   pub up_entry_below : (p n : ℕ) (rs : List ℕ) → p < n → Ranks c (G.kids p) rs → up_entry G c p rs < up_start G c n
   up_entry_below p n rs h r = omega (arith, up_start_after p n h, choice_below c (G.kids p) rs r)
 
+  -- THEOREM: a production and a choice have an entry of their own
   pub up_entry_once : (p p' : ℕ) (rs rs' : List ℕ) → Ranks c (G.kids p) rs → Ranks c (G.kids p') rs'
       → up_entry G c p rs ≡ up_entry G c p' rs' → (p ≡ p') × (rs ≡ rs')
   unfolding ups
@@ -104,6 +105,7 @@ module _ (G : Grammar) (c : List ℕ) where
       let t = run_once ups p (choice c (G.kids p) rs) p' (choice c (G.kids p') rs') (choice_below c (G.kids p) rs r) (choice_below c (G.kids p') rs' r') f in
       (t.0, choice_once c (G.kids p) rs rs' r (rw t.0 r') (t.1 ∙ rw t.0))
 
+  -- THEOREM: every up entry is one's
   pub up_entry_of : (n x : ℕ) → x < up_start G c n → UpEntryOf G c n x
   unfolding ups
   up_entry_of n x h =
@@ -147,6 +149,19 @@ module _ (G : Grammar) (c d : List ℕ) where
       → down_entry G c d p f rs < down_start G c d n
   down_entry_below p n f rs h l r = omega (arith, down_start_after p n h, within_below p f rs l r)
 
+  -- THEOREM: a production, a feasible rank and a choice have an entry of their own
+  pub down_entry_once : (p p' f f' : ℕ) (rs rs' : List ℕ) → f < get_or d (G.left p) 0 → f' < get_or d (G.left p') 0
+      → Ranks c (G.kids p) rs → Ranks c (G.kids p') rs' → down_entry G c d p f rs ≡ down_entry G c d p' f' rs' → (p ≡ p') × (f ≡ f') × (rs ≡ rs')
+  unfolding downs
+  down_entry_once p p' f f' rs rs' l l' r r' e =
+      let ks = G.kids p in
+      let g : starts downs p + within c ks f rs ≡ starts downs p' + within c (G.kids p') f' rs' = rw (← down_starts p, ← down_starts p') e in
+      let t = run_once downs p (within c ks f rs) p' (within c (G.kids p') f' rs') (within_below p f rs l r) (within_below p' f' rs' l' r') g in
+      let q : Ranks c ks rs' = rw t.0 r' in
+      let z = same_from_place f (choice c ks rs) f' (choice c ks rs') (choices c ks) (choice_below c ks rs r) (choice_below c ks rs' q) (t.1 ∙ rw t.0) in
+      (t.0, z.0, choice_once c ks rs rs' r q z.1)
+
+  -- THEOREM: every down entry is one's
   pub down_entry_of : (n x : ℕ) → x < down_start G c d n → DownEntryOf G c d n x
   unfolding downs
   down_entry_of n x h =
