@@ -40,15 +40,13 @@ pub fn insert(s: &mut [u32], base: usize, n: usize, x: u32) -> bool
 
 // ---- labels
 
-// The label b becomes a everywhere.
+// The label b becomes a everywhere. Each place is written, also with what it holds, so that many are taken at a time.
 #[tactic(auto, unfolding(chains::specs::Labels::relabel))]
 pub fn relabel(s: &mut [u8], a: u8, b: u8)
     ensures { Relabelled a b s.old s.new }
 {
     for label in s {
-        if *label == b {
-            *label = a;
-        }
+        *label = if *label == b { a } else { *label };
     }
 }
 

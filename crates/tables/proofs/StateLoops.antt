@@ -99,13 +99,13 @@ module _ {f : ℕ → ℕ} {s : List ℕ} {o : ℕ} (h : Laying f s o) where
       let e : o ≡ labels = omega arith in
       sym (take_all o s (omega (arith, h.long))) ∙ h.held ∙ ap (labelling.labels_by f 0) e
 
--- where no occurrence is there
-pub none_state : State (replicate labels none)
-none_state = record { long = length-replicate {A = ℕ} labels none; low = λ o. by_place o (dec_lt o labels) }
+-- where all are in one group
+pub zeros_state : State (replicate labels 0)
+zeros_state = record { long = length-replicate {A = ℕ} labels 0; low = λ o. by_place o (dec_lt o labels) }
   where
-    by_place : (o : ℕ) → Dec (o < labels) → Low (get_or (replicate labels none) o none)
-    by_place o (yes h) = inr (get_or-replicate {A = ℕ} labels o none none h)
-    by_place o (no h) = inr (get_or_past (replicate labels none) o none (omega (arith, length-replicate {A = ℕ} labels none)))
+    by_place : (o : ℕ) → Dec (o < labels) → Low (get_or (replicate labels 0) o none)
+    by_place o (yes h) = inl (rw (get_or-replicate {A = ℕ} labels o 0 none h) (omega arith))
+    by_place o (no h) = inr (get_or_past (replicate labels 0) o none (omega (arith, length-replicate {A = ℕ} labels 0)))
 
 -- what has its own number or none is low
 pub apart_low : (b : List ℕ) (at : ℕ) → State (apart b at)

@@ -79,11 +79,11 @@ impl Model for Labels {
 }
 
 impl Labels {
-    // No occurrence is there.
-    pub fn none() -> Self
-        ensures { result ≡ replicate labels none }
+    // All in one group: zeros, as what is not filled yet is cleared to.
+    pub fn zeros() -> Self
+        ensures { result ≡ replicate labels 0 }
     {
-        Labels { of: [NONE; LABELS] }
+        Labels { of: [0; LABELS] }
     }
 
     // Every occurrence by itself.

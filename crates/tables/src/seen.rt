@@ -36,7 +36,7 @@ impl Level {
     {
         Level {
             counter: 0,
-            states: [Labels::none(); PLACES],
+            states: [Labels::zeros(); PLACES],
         }
     }
 
