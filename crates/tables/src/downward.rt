@@ -56,15 +56,9 @@ impl<'a> Downwards<'a> {
             (given feasible.entry.counts.now self.now.plausible.counts.now slot) v.old slot v.new }
     {
         if slot == 0 {
-            v.open(slot, self.book, at, feasible.codes, feasible.counts);
+            v.open(slot, self.book, at, feasible);
         } else {
-            v.open(
-                slot,
-                self.book,
-                at,
-                self.plausible.codes,
-                self.plausible.counts,
-            );
+            v.open(slot, self.book, at, self.plausible);
         }
     }
 

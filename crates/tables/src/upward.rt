@@ -9,20 +9,21 @@ ghost use Rattle.tables.specs.Shape.{Opened};
 ghost use Rattle.tables.specs.Visit.{Opening};
 ghost use Rattle.tables.specs.Sweep.{Outcome};
 
+use super::ranked::Sets;
 use super::sets::clear;
 use super::sweep::{Pass, close};
 use super::visit::Visit;
 use members::Full;
 
 // The children in turn, from the first; the results are seen on the left kind.
-fn prepare_up(book: &[u8], at: usize, sets: &[u32], counts: &[u8]) -> Visit
+fn prepare_up(book: &[u8], at: usize, sets: Sets) -> Visit
     requires { (arity_at book.now at ≤ max_kids)
-        × ((i : ℕ) → i ≤ arity_at book.now at → Placed sets.now counts.now (kind_in book.now at i)) }
-    ensures { Opening book.now at 0 suc (λ i. sets.now) (λ i. counts.now) result (arity_at book.now at) }
+        × ((i : ℕ) → i ≤ arity_at book.now at → Placed sets.codes.now sets.counts.now (kind_in book.now at i)) }
+    ensures { Opening book.now at 0 suc (λ i. sets.entry.codes.now) (λ i. sets.entry.counts.now) result (arity_at book.now at) }
 {
     let mut v = Visit::looking_at(book, at, 0);
     for j in 0..book::arity(book, at) {
-        v.open(j + 1, book, at, sets, counts);
+        v.open(j + 1, book, at, sets);
     }
     v
 }
@@ -56,7 +57,15 @@ impl<'a> Pass for Upwards<'a> {
     // All results of the production, put into its left kind's set.
     fn serve(&self, p: usize, sets: &mut [u32], counts: &mut [u8]) -> Result<bool, Full> {
         let at = self.places[p];
-        prepare_up(self.book, at, sets, counts).make(self.book, at, sets, counts)
+        prepare_up(
+            self.book,
+            at,
+            Sets {
+                codes: sets,
+                counts,
+            },
+        )
+        .make(self.book, at, sets, counts)
     }
 }
 

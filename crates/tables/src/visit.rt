@@ -1,7 +1,8 @@
 // A visit of a production: its turns opened one by one; then all that comes of its base by choices of codes for them is put into one kind's set.
 use super::labels::{Labels, SLOTS, width};
+use super::ranked::Sets;
 use super::seen::{LEVELS, Level};
-use super::sets::{MAX_MEMBERS, copy_members};
+use super::sets::MAX_MEMBERS;
 use members::Full;
 
 // A choice of a code for a slot: the slot's number of settings, and the codes of its kind as they stood when the turn was opened.
@@ -50,17 +51,16 @@ impl Visit {
     }
 
     // One turn more, given to a slot, with the codes of its kind as they stand now.
-    pub fn open(&mut self, slot: u8, book: &[u8], at: usize, sets: &[u32], counts: &[u8])
-        requires { (self.old.opened < max_turns) × Placed sets.now counts.now (kind_in book.now at slot) }
-        ensures { Opened book.now at sets.now counts.now self.old slot self.new }
+    pub fn open(&mut self, slot: u8, book: &[u8], at: usize, sets: Sets)
+        requires { (self.old.opened < max_turns) × Placed sets.codes.now sets.counts.now (kind_in book.now at slot) }
+        ensures { Opened book.now at sets.entry.codes.now sets.entry.counts.now self.old slot self.new }
     {
-        let kind = book::kind_in(book, at, slot) as usize;
-        let size = counts[kind];
+        let codes = sets.members(book::kind_in(book, at, slot) as usize);
         let turn = &mut self.turns[self.opened];
         turn.slot = slot;
         turn.width = width(book, at, slot);
-        turn.size = size;
-        copy_members(sets, kind, size as usize, &mut turn.codes, 0);
+        turn.size = codes.len() as u8;
+        turn.codes[..codes.len()].copy_from_slice(codes);
         self.opened += 1;
     }
 
