@@ -12,10 +12,15 @@ places = 64
 abbrev pub levels : ℕ
 levels = 2 + max_kids
 
--- how many of a level's places are filled, and the counter after one state more: behind the last one it goes round
+-- how many of a level's places are filled, by its counter
 abbrev pub filled : Level → ℕ
 filled v = min v.counter places
 
+-- none is
+abbrev pub Blank : Level → Type 0
+Blank v = v.counter ≡ 0
+
+-- the counter after one state more: behind the last one it goes round
 abbrev pub last_counter : ℕ
 last_counter = 2 * places - 1
 

@@ -1,14 +1,13 @@
 // The labels of a production's occurrences while its groups are worked out: equal labels stand in one group, and NONE where there is no such
 // occurrence or where it was dropped.
-ghost use Rattle.std.specs.Prelude.{◌≡◌, ◌+◌, ◌*◌, ◌^◌, ◌<◌, ◌≤◌, List, [], ℕ, length, replicate, eqb};
-ghost use Rattle.lists.specs.Pick.{pick};
+ghost use Rattle.std.specs.Prelude.{◌≡◌, ◌+◌, ◌<◌, ◌≤◌, List, [], ℕ, length, replicate};
 ghost use Rattle.lists.specs.Sought.{Least};
 ghost use Rattle.chains.specs.Limits.{max_settings, max_kids};
 ghost use Rattle.chains.specs.Grouping.{label};
 ghost use Rattle.chains.specs.Labels.{join_at, joins, index, add};
 ghost use Rattle.chains.specs.State.{code_pairs, dropped, code_on};
 ghost use Rattle.ranks.specs.Entries.{labels, none};
-ghost use Rattle.tables.specs.State.{Low, State, Whole, Readable, width_in, own, apart, based, tidied, numbered, Numbering};
+ghost use Rattle.tables.specs.State.{State, Whole, Readable, width_in, own, apart, based, tidied, numbered, Numbering};
 
 use std::marker::Model;
 

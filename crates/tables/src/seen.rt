@@ -1,6 +1,6 @@
 // The states from which all was gathered already, for each number of turns left.
-ghost use Rattle.std.specs.Prelude.{◌≡◌, ◌⊎◌, true, List, ℕ, min};
-ghost use Rattle.tables.specs.Seen.{places, advanced, Found, remembered};
+ghost use Rattle.std.specs.Prelude.{◌≡◌, ◌⊎◌, true, List, ℕ};
+ghost use Rattle.tables.specs.Seen.{Blank, advanced, filled, Found, remembered};
 
 use super::labels::Labels;
 
@@ -32,7 +32,7 @@ fn advanced(counter: u8) -> u8
 impl Level {
     // No place is filled.
     pub fn new() -> Self
-        ensures { result.counter ≡ 0 }
+        ensures { Blank result }
     {
         Level {
             counter: 0,
@@ -42,7 +42,7 @@ impl Level {
 
     // How many places are filled, by the counter.
     fn filled(&self) -> usize
-        ensures { result ≡ min self.now.counter places }
+        ensures { result ≡ filled self.now }
     {
         (self.counter as usize).min(PLACES)
     }
