@@ -139,9 +139,6 @@ pub record OnSweep (q : Steps) (s₀ c₀ marks s c : List ℕ) (added : Bool) (
   pub marked : AllMarked q marks s c
   pub long : length marks ≡ q.prods
 
-pub sweep_begun : {q : Steps} {marks s c : List ℕ} → Fine q.kinds q.may s c → AllMarked q marks s c → length marks ≡ q.prods → OnSweep q s c marks s c false 0
-sweep_begun {q} {s = s} {c} f m l = record { round = round_begun (InTurn q s c) f; marked = m; long = l }
-
 module _ {q : Steps} {s₀ c₀ marks s c : List ℕ} {a : Bool} {p : ℕ} (h : OnSweep q s₀ c₀ marks s c a p) where
   pub sweep_next : Lawful q → p < q.prods → {mark : ℕ} {s' c' : List ℕ} (b : Bool) → Attended q.kinds q.may (Served q p s c s' c') (Marked q p mark) s c s' c' (Ok b)
       → OnSweep q s₀ c₀ (set marks p mark) s' c' (a || b) (p + 1)
@@ -155,13 +152,6 @@ module _ {q : Steps} {s₀ c₀ marks s c : List ℕ} {a : Bool} {p : ℕ} (h : 
       mark_of : (i : ℕ) → i < q.prods → Dec (i ≡ p) → Marked q i (get_or (set marks p mark) i 0) s' c'
       mark_of i o (yes y) = rw (y, get_or-set_same marks p mark 0 (omega (arith, h.long))) u.marked
       mark_of i o (no y) = rw (get_or-set_other marks p i mark 0 y) (marked_later w o u.turned.kept (h.marked i o))
-
-  pub sweep_full : {D E : Type 0} {M M' : List ℕ → List ℕ → Type 0} {s' c' : List ℕ} {o o' : Full} → Attended q.kinds q.may D M s c s' c' (Err o)
-      → Attended q.kinds q.may E M' s₀ c₀ s' c' (Err o')
-  sweep_full u = record { turned = round_full h.round u.turned; marked = tt }
-
-  pub sweep_done : q.prods ≤ p → Attended q.kinds q.may (AllServed q s₀ c₀ s c) (AllMarked q marks) s₀ c₀ s c (Ok a)
-  sweep_done l = record { turned = turned_map (Ok a) (λ d i o. d i (omega arith) o) h.round; marked = h.marked }
 
 -- ---- sweeps until one adds nothing
 pub record Closing (q : Steps) (s₀ c₀ marks s c : List ℕ) : Type 0 where

@@ -63,9 +63,6 @@ module _ {b places : List ℕ} (o : Opened b places) where
 
     -- ---- what is watched
     module _ {at : ℕ} (e : at ≡ entry b p) where
-      pub kids_few : arity_at b at ≤ max_kids
-      kids_few = rw e (few_kids o.book p l)
-
       pub kid_counted : (c : List ℕ) → kinds b ≤ length c → (i : ℕ) → i < arity_at b at → kid_at b at i < length c
       kid_counted c h i k =
           let z : i < length ((grammar b).kids p) = omega (arith, rw e at k, arity_read o.book p l) in

@@ -20,7 +20,3 @@ module _ (n : ℕ) (s : List ℕ) where
       let d : n + (i - n) ≡ i = omega arith in
       ap (λ (k : ℕ). get_or (cleared n s) k 0) e ∙ get_or-append-add (replicate n 0) (drop n s) (i - n) 0
       ∙ get_or-drop n s (i - n) 0 ∙ ap (λ (k : ℕ). get_or s k 0) d
-
--- ── no more places than there are ──
-pub clears : (n : ℕ) (s : List ℕ) {s' : List ℕ} → n ≤ length s → Cleared n s s' → s' ≡ cleared n s
-clears n s h e = let m : min n (length s) ≡ n = omega arith in e ∙ ap (λ k. cleared k s) m

@@ -9,13 +9,6 @@ use Rattle.tables.proofs.upward.prepare_up.Goals as goal
 pub loop-j-init : goal.loop-j-init
 loop-j-init c = c.looking_at-v.ensures _ _ _
 
-pub open-requires : goal.open-requires
-open-requires c = (omega (arith, c.requires.0, c.loop-j.invariant.opened), c.requires.1 (c.loop-j.j + 1) (omega arith))
-
 pub loop-j-preserved : goal.loop-j-preserved
 loop-j-preserved c = opening_more c.loop-j.invariant (omega (arith, c.requires.0)) (omega arith) (c.requires.1 (suc c.loop-j.j) (omega arith)) c.open.ensures
 
-pub returns : goal.returns
-returns c =
-    let e : c.loop-j.j ≡ arity_at c.args.book.now c.args.at = omega arith in
-    rw (← e) c.loop-j.invariant
