@@ -10,17 +10,16 @@ use native.Mathlib.Omega.{arith}
 use native.Mathlib.Decide.{ℕ_discrete}
 use lib.ListN.{length, get_or, set, take, replicate, length-set, length-replicate, get_or-replicate}
 use lib.Seq.{get_or-set_same, get_or-set_other, get_or-take, length-take-le}
-use Rattle.std.specs.Prelude.{Ok, Err}
+use Rattle.std.specs.Prelude.{Ok}
 use Rattle.lists.proofs.Order.{by_order}
 use Rattle.chains.specs.Limits.{max_prods, max_members}
 use Rattle.members.specs.Sets.{Has}
 use Rattle.tables.specs.Sets.{Holds}
 use Rattle.tables.specs.Memory.{Fine, Kept, Turned}
 use Rattle.tables.specs.Visit.{Gathered}
-use Rattle.tables.specs.Sweep.{Steps, Lawful, Since, Served, total, Marked, AllServed, AllMarked, Attended, Exact}
-use Rattle.members.specs.declared.Full.{Full}
+use Rattle.tables.specs.Sweep.{Steps, Lawful, Since, Served, total, Marked, AllMarked, Attended, Exact}
 use Rattle.tables.proofs.Memory.{kept_refl, kept_trans, equal_counts, turned_map}
-use Rattle.tables.proofs.Rounds.{Round, round_begun, round_next, round_full}
+use Rattle.tables.proofs.Rounds.{Round, round_next}
 use Rattle.tables.proofs.Holds.{holds_fine}
 use Rattle.tables.proofs.Gathering.{fine_own}
 

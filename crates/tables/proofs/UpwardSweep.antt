@@ -8,7 +8,7 @@ use native.Mathlib.Omega.{arith}
 use lib.ListN.{length, get_or}
 use Rattle.std.specs.Prelude.{Result}
 use Rattle.std.proofs.lemmas.Result.{on_ok_weaker}
-use Rattle.chains.specs.Limits.{max_kids, max_members}
+use Rattle.chains.specs.Limits.{max_members}
 use Rattle.chains.specs.Grouping.{Members}
 use Rattle.chains.specs.Plausible.{Plausible}
 use Rattle.chains.specs.Steps.{StepUp}
@@ -27,7 +27,6 @@ use Rattle.tables.specs.Upward.{up_steps}
 use Rattle.tables.proofs.Memory.{turned_map}
 use Rattle.tables.proofs.Holds.{fine_holds}
 use Rattle.tables.proofs.Gathering.{turned_widen}
-use Rattle.tables.proofs.StateBase.{few_kids}
 use Rattle.tables.proofs.Sweeping.{total_agree, since_now}
 
 -- codes of some kinds, in other sets that have them

@@ -1,11 +1,11 @@
 -- A list whose first n places are cleared, place by place.
 use mathlib.Core.Path.{◌≡◌, ap, ◌∙◌}
 use mathlib.Core.List.{List}
-use Prim.Native.Nat.{ℕ, ◌+◌, ◌-◌, ◌≤◌, ◌<◌, min}
+use Prim.Native.Nat.{ℕ, ◌+◌, ◌-◌, ◌≤◌, ◌<◌}
 use native.Mathlib.Omega.{arith}
 use lib.ListN.{length, get_or, drop, replicate, length-append, length-drop, length-replicate, get_or-replicate, get_or-append}
 use lib.Seq.{get_or-append-add, get_or-drop}
-use Rattle.zeros.specs.Zeros.{cleared, Cleared}
+use Rattle.zeros.specs.Zeros.{cleared}
 
 module _ (n : ℕ) (s : List ℕ) where
   pub cleared_long : n ≤ length s → length (cleared n s) ≡ length s

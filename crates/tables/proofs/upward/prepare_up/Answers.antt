@@ -1,8 +1,6 @@
 -- The children in turn. Assumes nothing.
-use mathlib.Core.Path.{◌≡◌}
-use Prim.Native.Nat.{suc, ◌+◌}
+use Prim.Native.Nat.{suc}
 use native.Mathlib.Omega.{arith}
-use Rattle.book.specs.Format.{arity_at}
 use Rattle.tables.proofs.Opening.{opening_more}
 use Rattle.tables.proofs.upward.prepare_up.Goals as goal
 
@@ -11,4 +9,3 @@ loop-j-init c = c.looking_at-v.ensures _ _ _
 
 pub loop-j-preserved : goal.loop-j-preserved
 loop-j-preserved c = opening_more c.loop-j.invariant (omega (arith, c.requires.0)) (omega arith) (c.requires.1 (suc c.loop-j.j) (omega arith)) c.open.ensures
-
