@@ -1,0 +1,93 @@
+// What a sheet call goes by once the refusals before 25 are out: a book and a sheet in order, and tables with a count for every kind.
+ghost use Rattle.std.specs.Prelude.{◌≡◌, ◌≤◌, ◌<◌, length};
+ghost use Rattle.chains.specs.Limits.{max_kids, max_settings};
+ghost use Rattle.book.specs.Format.{kinds, prods, grammar};
+ghost use Rattle.book.specs.Reading.{Index};
+ghost use Rattle.ranks.specs.Padded.{CountsPadded};
+ghost use Rattle.numbering.specs.Unrefused.{Unrefused};
+
+use super::limits::PRODUCTIONS;
+use ranks::KIDS;
+
+// Anyone's tables: the counts of the plausible and of the feasible sets, and the entries of the up and of the down table.
+#[derive(Clone, Copy)]
+pub struct Tables<'a> {
+    pub plausible_counts: &'a [u8],
+    pub feasible_counts: &'a [u8],
+    pub up: &'a [u8],
+    pub down: &'a [u8],
+}
+
+// The places are those of the production entries, found once.
+#[derive(Drop)]
+pub struct Call<'a> {
+    pub book: &'a [u8],
+    pub places: [usize; PRODUCTIONS],
+    pub sheet: &'a [u8],
+    pub tables: Tables<'a>,
+    ghost unrefused: { Unrefused book.now sheet.now },
+    ghost indexed: { Index book.now places },
+    ghost plausible_counted: { kinds book.now ≤ length tables.plausible_counts.now },
+    ghost feasible_counted: { kinds book.now ≤ length tables.feasible_counts.now },
+}
+
+impl<'a> Call<'a> {
+    pub fn new(book: &'a [u8], sheet: &'a [u8], tables: Tables<'a>) -> Self
+        requires unrefused { Unrefused book.now sheet.now }
+        requires plausible_counted { kinds book.now ≤ length tables.plausible_counts.now }
+        requires feasible_counted { kinds book.now ≤ length tables.feasible_counts.now }
+        ensures book { result.book ≡ book.entry }
+        ensures sheet { result.sheet ≡ sheet.entry }
+        ensures tables { result.tables ≡ tables.entry }
+    {
+        Call {
+            book,
+            places: book::index(book),
+            sheet,
+            tables,
+        }
+    }
+
+    // The left kind of production p.
+    pub fn left(&self, p: u8) -> u8
+        requires { p < prods self.now.book.now }
+        ensures is { result ≡ (grammar self.now.book.now).left p }
+        ensures known { result < kinds self.now.book.now }
+    {
+        book::left(self.book, self.places[p as usize])
+    }
+
+    // The kinds of its children.
+    pub fn kids(&self, p: u8) -> &'a [u8]
+        requires { p < prods self.now.book.now }
+        ensures are { result.now ≡ (grammar self.now.book.now).kids p }
+        ensures few { length result.now ≤ max_kids }
+    {
+        let at = self.places[p as usize];
+        let from = at + 2;
+        let arity = book::arity(self.book, at) as usize;
+        &self.book[from..from + arity]
+    }
+
+    // The number of settings of a kind.
+    pub fn width(&self, kind: u8) -> usize
+        requires { kind < kinds self.now.book.now }
+        ensures is { result ≡ (grammar self.now.book.now).settings kind }
+        ensures few { result ≤ max_settings }
+    {
+        book::settings(self.book, kind) as usize
+    }
+
+    // The counts of the plausible sets of the children of production p; 1 past the last child.
+    pub fn kid_counts(&self, p: u8) -> [u8; KIDS]
+        requires { p < prods self.now.book.now }
+        ensures { CountsPadded max_kids self.now.tables.plausible_counts.now ((grammar self.now.book.now).kids p) result }
+    {
+        let kids = self.kids(p);
+        let mut counts = [1; KIDS];
+        for (j, &kind) in kids.iter().enumerate() {
+            counts[j] = self.tables.plausible_counts[kind as usize];
+        }
+        counts
+    }
+}
