@@ -220,9 +220,9 @@ module _ {x : Call} {nodes₀ nodes : List Node} {i : ℕ} (g : DownGoing x node
         place_is = ap (λ (y : Refused). y.place) ez
 
     pub going_turn : {e : ℕ} → r ≡ Some e → (n : Node) → n.entry ≡ e → n.plausible.0 ≡ (get_or nodes' i unread).plausible.0
-        → n.feasible.0 ≡ (get_or nodes' i unread).feasible.0 → n.end ≡ (get_or nodes' i unread).end → DownGoing x nodes₀ (set nodes' i n) (i + 1)
-    going_turn {e} er n ee ep ef eend = record {
-      long = length-set nodes' i n ∙ f.only.upward.long ∙ g.long;
+        → n.feasible.0 ≡ (get_or nodes' i unread).feasible.0 → n.end ≡ (get_or nodes' i unread).end → length nodes' ≡ max_nodes → DownGoing x nodes₀ (set nodes' i n) (i + 1)
+    going_turn {e} er n ee ep ef eend el = record {
+      long = length-set nodes' i n ∙ el;
       upward = upward_more (upward_more g.upward f.only.upward) (upward_set nodes' i n ep eend);
       read_so_far = λ t en ra ri.
           let (bad, first, below, told) = g.read_so_far t en ra ri in
@@ -266,7 +266,7 @@ module _ {x : Call} {nodes₀ nodes : List Node} {i : ℕ} (g : DownGoing x node
         entered t q told a k (no y) = get_or-set_other (down_entries nodes') i a n.entry 0 y ∙ ap (λ (s : List ℕ). get_or s a 0) f.only.entries ∙ told a (omega arith)
         entered t q told a k (yes y) =
             ap (λ z. get_or (set (down_entries nodes') i n.entry) z 0) y
-            ∙ get_or-set_same (down_entries nodes') i n.entry 0 (omega (arith, few_nodes x, entries_long nodes', f.only.upward.long, g.long)) ∙ ee ∙ q
+            ∙ get_or-set_same (down_entries nodes') i n.entry 0 (omega (arith, few_nodes x, entries_long nodes', el)) ∙ ee ∙ q
             ∙ ap (λ z. entry_in (grammar_in x) (tables_in x) (visit (grammar_in x) (tables_in x) t.tree z)) (sym y)
 
   pub going_done : length x.sheet.now ≤ i → DownReads x nodes₀ nodes (Ok (tt {0}))

@@ -1,6 +1,6 @@
 -- The nodes' fields as lists: what a write to a node does to each.
 use Rattle.std.proofs.Common.{◌≡◌, List, ℕ, length, get_or, refl, ◌∙◌}
-use Rattle.std.proofs.Math.ListN.{set, length-set, get_or-map, length-map}
+use Rattle.std.proofs.Math.ListN.{set, get_or-map, length-map}
 use Rattle.std.proofs.lemmas.List.{map-set}
 use Rattle.std.proofs.Math.Seq.{map-set_same}
 use Rattle.numbering.specs.Nodes.{plausible_ranks, feasible_ranks, subtree_ends, first_settings, down_entries, SameUpward, OnlyFeasible}
@@ -94,18 +94,18 @@ module _ (nodes : List Node) where
 
 -- ── what stays ──
 pub only_none : (nodes : List Node) → OnlyFeasible nodes nodes
-only_none nodes = record { upward = record { long = refl; plausible = refl; ends = refl }; entries = refl }
+only_none nodes = record { upward = record { plausible = refl; ends = refl }; entries = refl }
 
 pub upward_set : (nodes : List Node) (i : ℕ) (n : Node) → n.plausible.0 ≡ (get_or nodes i unread).plausible.0 → n.end ≡ (get_or nodes i unread).end
     → SameUpward nodes (set nodes i n)
-upward_set nodes i n ep ee = record { long = length-set nodes i n; plausible = plausible_same nodes i n ep; ends = ends_same nodes i n ee }
+upward_set nodes i n ep ee = record { plausible = plausible_same nodes i n ep; ends = ends_same nodes i n ee }
 
 pub only_set : (nodes : List Node) (i : ℕ) (n : Node) → n.plausible.0 ≡ (get_or nodes i unread).plausible.0 → n.end ≡ (get_or nodes i unread).end
     → n.entry ≡ (get_or nodes i unread).entry → OnlyFeasible nodes (set nodes i n)
 only_set nodes i n ep ee et = record { upward = upward_set nodes i n ep ee; entries = entries_same nodes i n et }
 
 pub upward_more : {nodes nodes' nodes'' : List Node} → SameUpward nodes nodes' → SameUpward nodes' nodes'' → SameUpward nodes nodes''
-upward_more a b = record { long = b.long ∙ a.long; plausible = b.plausible ∙ a.plausible; ends = b.ends ∙ a.ends }
+upward_more a b = record { plausible = b.plausible ∙ a.plausible; ends = b.ends ∙ a.ends }
 
 pub only_more : {nodes nodes' nodes'' : List Node} → OnlyFeasible nodes nodes' → OnlyFeasible nodes' nodes'' → OnlyFeasible nodes nodes''
 only_more a b = record { upward = upward_more a.upward b.upward; entries = b.entries ∙ a.entries }

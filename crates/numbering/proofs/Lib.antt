@@ -17,3 +17,4 @@ pub mod Passed
 pub mod UpReads
 pub mod Handing
 pub mod DownReads
+pub mod Choosing

@@ -1,5 +1,5 @@
 -- What is known of the nodes, each field read off as a list. No promise of the library cites this page.
-use Rattle.std.specs.Prelude.{◌≡◌, List, ℕ, length, map}
+use Rattle.std.specs.Prelude.{◌≡◌, List, ℕ, map}
 use Rattle.numbering.specs.declared.nodes.Node.{Node}
 
 unfoldable pub plausible_ranks : List Node → List ℕ
@@ -19,7 +19,6 @@ down_entries nodes = map (λ (n : Node). n.entry) nodes
 
 -- what the upward reads left is as it was
 pub record SameUpward (nodes nodes' : List Node) : Type 0 where
-  pub long : length nodes' ≡ length nodes
   pub plausible : plausible_ranks nodes' ≡ plausible_ranks nodes
   pub ends : subtree_ends nodes' ≡ subtree_ends nodes
 

@@ -40,7 +40,7 @@ bounds-nodes-i-in-loop-i c = omega (arith, few_nodes c.args.call.now)
 pub loop-i-preserved : goal.loop-i-preserved
 loop-i-preserved c =
     let found = ok_or_some c.read_node.result c.at.result c.in_ok-entry.ensures.value in
-    going_turn c.loop-i.invariant c.loop-i-test.true c.read_node.ensures found _ refl refl refl refl
+    going_turn c.loop-i.invariant c.loop-i-test.true c.read_node.ensures found _ refl refl refl refl c.read_node.array_long
 
 pub returns : goal.returns
 returns c = going_done c.loop-i.invariant c.loop-i-test.false
