@@ -3,7 +3,7 @@ use Rattle.std.proofs.Common.{◌≡◌, List, ℕ, length, get_or, refl, ◌∙
 use Rattle.std.proofs.Math.ListN.{set, get_or-map, length-map}
 use Rattle.std.proofs.lemmas.List.{map-set}
 use Rattle.std.proofs.Math.Seq.{map-set_same}
-use Rattle.numbering.specs.Nodes.{plausible_ranks, feasible_ranks, subtree_ends, first_settings, down_entries, SameUpward, OnlyFeasible}
+use Rattle.numbering.specs.Nodes.{plausible_ranks, feasible_ranks, subtree_ends, first_settings, down_entries, SameUpward, OnlyFeasible, OnlyPlaces}
 use Rattle.numbering.specs.declared.nodes.Node.{Node}
 
 -- a node before it is read
@@ -109,3 +109,12 @@ upward_more a b = record { plausible = b.plausible ∙ a.plausible; ends = b.end
 
 pub only_more : {nodes nodes' nodes'' : List Node} → OnlyFeasible nodes nodes' → OnlyFeasible nodes' nodes'' → OnlyFeasible nodes nodes''
 only_more a b = record { upward = upward_more a.upward b.upward; entries = b.entries ∙ a.entries }
+
+pub places_none : (nodes : List Node) → OnlyPlaces nodes nodes
+places_none nodes = record { ends = refl; entries = refl }
+
+pub places_set : (nodes : List Node) (i : ℕ) (n : Node) → n.end ≡ (get_or nodes i unread).end → n.entry ≡ (get_or nodes i unread).entry → OnlyPlaces nodes (set nodes i n)
+places_set nodes i n ee et = record { ends = ends_same nodes i n ee; entries = entries_same nodes i n et }
+
+pub places_more : {nodes nodes' nodes'' : List Node} → OnlyPlaces nodes nodes' → OnlyPlaces nodes' nodes'' → OnlyPlaces nodes nodes''
+places_more a b = record { ends = b.ends ∙ a.ends; entries = b.entries ∙ a.entries }

@@ -18,3 +18,7 @@ pub mod UpReads
 pub mod Handing
 pub mod DownReads
 pub mod Choosing
+pub mod Rows
+pub mod Holders
+pub mod Firsts
+pub mod Slots

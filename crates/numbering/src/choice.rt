@@ -13,15 +13,11 @@ pub fn choose(call: &Call, nodes: &mut [Node; NODES]) -> Result<(), Refused>
     ensures { Choice call.now nodes.new result }
 {
     read_upward(call, nodes)?;
-    let node = nodes[0];
-    let root = ranks::started(node.plausible);
+    let root = ranks::started(nodes[0].plausible);
     let start = book::start(call.book) as usize;
     if call.tables.feasible_counts[start] <= root.0 {
         return Err(Refusal::BadTables.at(0));
     }
-    nodes[0] = Node {
-        feasible: root,
-        ..node
-    };
+    nodes[0].feasible = root;
     read_downward(call, nodes)
 }

@@ -23,11 +23,8 @@ fn hand_down(call: &Call, i: usize, p: u8, entry: u64, nodes: &mut [Node; NODES]
         if call.tables.feasible_counts[kind as usize] <= rank.0 {
             return false;
         }
-        let node = nodes[child];
-        nodes[child] = Node {
-            feasible: rank,
-            ..node
-        };
+        let node = &mut nodes[child];
+        node.feasible = rank;
         child = node.end as usize;
     }
     true
@@ -59,8 +56,7 @@ pub fn read_downward(call: &Call, nodes: &mut [Node; NODES]) -> Result<(), Refus
     for (i, &p) in call.sheet.iter().enumerate() {
         let entry = read_node(call, i, p, starts[p as usize], nodes)
             .ok_or(Refusal::BadTables.at(i as u16))?;
-        let node = nodes[i];
-        nodes[i] = Node { entry, ..node };
+        nodes[i].entry = entry;
     }
     Ok(())
 }

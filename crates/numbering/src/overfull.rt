@@ -1,5 +1,5 @@
 // The counts of the sets: none may be over the limit.
-ghost use Rattle.std.specs.Prelude.{[], ℕ, ◌≤◌, ◌<◌, length, get_or};
+ghost use Rattle.std.specs.Prelude.{ℕ, ◌≤◌, ◌<◌, length, get_or};
 ghost use Rattle.chains.specs.Limits.{max_members};
 ghost use Rattle.book.specs.Format.{kinds, grammar};
 ghost use Rattle.bookcheck.specs.Search.{Tells};
@@ -20,7 +20,7 @@ fn over(counts: &[u8]) -> bool
 // Whether a count of some kind is, in either slice.
 pub fn too_many(book: &[u8], given: Tables) -> bool
     requires { Accepted book.now × (kinds book.now ≤ length given.plausible_counts.now) × (kinds book.now ≤ length given.feasible_counts.now) }
-    ensures { Tells (BigCount (grammar book.now) (tables given.plausible_counts.now given.feasible_counts.now given.up.now given.down.now)) result }
+    ensures { Tells (BigCount (grammar book.now) (tables given.entry.plausible_counts.now given.entry.feasible_counts.now given.entry.up.now given.entry.down.now)) result }
 {
     let n = book::kinds(book) as usize;
     over(&given.plausible_counts[..n]) || over(&given.feasible_counts[..n])

@@ -31,12 +31,9 @@ pub fn read_upward(call: &Call, nodes: &mut [Node; NODES]) -> Result<(), Refused
         let kin = kin_of(nodes, i, call.kids(p).len());
         let rank = read_node(call, p, starts[p as usize], kin.ranks)
             .ok_or(Refusal::BadTables.at(i as u16))?;
-        let node = nodes[i];
-        nodes[i] = Node {
-            plausible: rank,
-            end: kin.end as u16,
-            ..node
-        };
+        let node = &mut nodes[i];
+        node.plausible = rank;
+        node.end = kin.end as u16;
     }
     Ok(())
 }

@@ -19,12 +19,6 @@ offset_bounds-nodes-child c = omega (arith, handing_inside c.loop-j.invariant c.
 pub bounds-nodes-child : goal.bounds-nodes-child
 bounds-nodes-child c = handing_inside c.loop-j.invariant c.requires.children c.kids-kind-items.ensures.are c.loop-j-test.true
 
-pub offset_bounds-nodes-child-in-loop-j : goal.offset_bounds-nodes-child-in-loop-j
-offset_bounds-nodes-child-in-loop-j c = omega (arith, handing_inside c.loop-j.invariant c.requires.children c.kids-kind-items.ensures.are c.loop-j-test.true)
-
-pub bounds-nodes-child-in-loop-j : goal.bounds-nodes-child-in-loop-j
-bounds-nodes-child-in-loop-j c = handing_inside c.loop-j.invariant c.requires.children c.kids-kind-items.ensures.are c.loop-j-test.true
-
 pub loop-j-preserved : goal.loop-j-preserved
 loop-j-preserved c =
     handing_turn c.loop-j.invariant c.requires.children c.kids-kind-items.ensures.are c.loop-j-test.true c.child_rank-rank.ensures c.if-call-kind.false _ refl refl refl refl

@@ -34,9 +34,6 @@ returns-in_err-entry c =
 pub bounds-nodes-i : goal.bounds-nodes-i
 bounds-nodes-i c = omega (arith, few_nodes c.args.call.now)
 
-pub bounds-nodes-i-in-loop-i : goal.bounds-nodes-i-in-loop-i
-bounds-nodes-i-in-loop-i c = omega (arith, few_nodes c.args.call.now)
-
 pub loop-i-preserved : goal.loop-i-preserved
 loop-i-preserved c =
     let found = ok_or_some c.read_node.result c.at.result c.in_ok-entry.ensures.value in

@@ -30,16 +30,13 @@ returns-in_err-rank c =
     let begins = c.up_starts-starts.ensures.each _ (going_known c.loop-i.invariant c.loop-i-test.true) in
     rw p.1 (going_bad c.loop-i.invariant c.loop-i-test.true begins c.kids.ensures.are c.kin_of-kin.ensures c.read_node.ensures f.0 _ (p.2 ∙ f.1 ∙ c.at.ensures))
 
-pub overflow_cast-nodes : goal.overflow_cast-nodes
-overflow_cast-nodes c =
+pub overflow_cast-node : goal.overflow_cast-node
+overflow_cast-node c =
     let begins = c.up_starts-starts.ensures.each _ (going_known c.loop-i.invariant c.loop-i-test.true) in
     omega (arith, going_end c.loop-i.invariant c.loop-i-test.true begins c.kids.ensures.are c.kin_of-kin.ensures c.read_node.ensures)
 
 pub bounds-nodes-i : goal.bounds-nodes-i
 bounds-nodes-i c = going_inside c.loop-i.invariant c.loop-i-test.true
-
-pub bounds-nodes-i-in-loop-i : goal.bounds-nodes-i-in-loop-i
-bounds-nodes-i-in-loop-i c = going_inside c.loop-i.invariant c.loop-i-test.true
 
 pub loop-i-preserved : goal.loop-i-preserved
 loop-i-preserved c =
