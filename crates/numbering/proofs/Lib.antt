@@ -22,3 +22,5 @@ pub mod Rows
 pub mod Holders
 pub mod Firsts
 pub mod Slots
+pub mod Families
+pub mod Instances

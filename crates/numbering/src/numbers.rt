@@ -105,11 +105,12 @@ fn number_node(
     let mut next = first;
     let mut child = i + 1;
     for (j, &kind) in call.kids(p).iter().enumerate() {
-        let at = nodes[child].first_setting as usize;
+        let kid = nodes[child];
+        let at = kid.first_setting as usize;
         let width = call.width(kind);
         let slot = &mut groups[at..at + width];
         next = number_slot(holders, call.tables.down, node.entry, j + 1, stamp, next, slot);
-        child = nodes[child].end as usize;
+        child = kid.end as usize;
     }
     next
 }
