@@ -62,8 +62,8 @@ taken k l h = omega (arith, length-take k l)
 abbrev zero_rank : Plausible
 zero_rank = record { 0 = 0 }
 
-get_or-replicate_default : {A : Type 0} (n m : ℕ) (a : A) → get_or (replicate n a) m a ≡ a
-get_or-replicate_default {A} n m a = go (dec_lt m n)
+pub replicate_default : {A : Type 0} (n m : ℕ) (a : A) → get_or (replicate n a) m a ≡ a
+replicate_default {A} n m a = go (dec_lt m n)
   where
     go : Dec (m < n) → get_or (replicate n a) m a ≡ a
     go (yes h) = get_or-replicate n m a a h
@@ -98,7 +98,7 @@ module _ {plausible ends : List ℕ} {i : ℕ} {ranks : List Plausible} {at j : 
       whole = simp (length-append, length-take, length-drop, length-replicate) (omega arith)
 
       none : (m : ℕ) → (get_or (drop kids (replicate max_kids zero_rank)) m zero_rank).0 ≡ 0
-      none m = ap (λ (t : Plausible). t.0) (get_or-drop kids (replicate max_kids zero_rank) m zero_rank ∙ get_or-replicate_default max_kids (kids + m) zero_rank)
+      none m = ap (λ (t : Plausible). t.0) (get_or-drop kids (replicate max_kids zero_rank) m zero_rank ∙ replicate_default max_kids (kids + m) zero_rank)
 
       each : (m : ℕ) → m < max_kids → Dec (m < kids)
           → get_or (numbers (ranks ++ drop kids (replicate max_kids zero_rank))) m 0 ≡ pick (ltb m kids) (get_or plausible (child_at ends i m) 0) 0

@@ -24,3 +24,4 @@ pub mod Firsts
 pub mod Slots
 pub mod Families
 pub mod Instances
+pub mod Walking

@@ -122,8 +122,8 @@ pub fn number_all(call: &Call, nodes: &mut [Node; NODES], groups: &mut [u16]) ->
     ensures { Given call.now nodes.old groups.old groups.new result }
 {
     place_settings(call, nodes);
-    let mut holders = [NOBODY; LABELS];
     let own = call.width(call.left(call.sheet[0]));
+    let mut holders = [NOBODY; LABELS];
     let root = &mut groups[..own];
     let mut next = number_slot(&mut holders, call.tables.down, nodes[0].entry, 0, 1, 0, root);
     for i in 0..call.sheet.len() {
