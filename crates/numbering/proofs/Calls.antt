@@ -4,7 +4,7 @@ use Rattle.chains.specs.Limits.{max_settings, max_kids, max_prods, max_nodes}
 use Rattle.book.specs.Format.{kinds, prods, start, trailer, left_at, arity_at, after_kids, entry, grammar}
 use Rattle.book.specs.Reading.{told, settings_of}
 use Rattle.bookcheck.specs.Accepted.{Accepted}
-use Rattle.bookcheck.proofs.Accepted.{told_prods, told_start, place_read, settings_read, arity_read, inside}
+use Rattle.bookcheck.proofs.Accepted.{told_kinds, told_prods, told_start, place_read, settings_read, arity_read, inside}
 use Rattle.sheet.specs.Trees.{Fits}
 use Rattle.sheet.proofs.Accepted.{book_accepted, accepted_sheet}
 use Rattle.numbering.specs.Parts.{grammar_in, TreeIn}
@@ -33,6 +33,9 @@ module _ (x : Call) where
   -- each byte of the sheet is a production
   pub known_in : (i : ℕ) → i < length x.sheet.now → get_or x.sheet.now i 0 < prods x.book.now
   known_in i h = (node_at tree_in i h).known
+
+  pub kinds_is : {n : ℕ} → n ≡ told x.book.now 1 → n ≡ kinds x.book.now
+  kinds_is e = e ∙ told_kinds accepted_in
 
   pub prods_is : {n : ℕ} → n ≡ told x.book.now 2 → (n ≡ prods x.book.now) × (n ≤ max_prods)
   prods_is e = let q = e ∙ told_prods accepted_in in (q, omega (arith, q, accepted_in.few_prods))

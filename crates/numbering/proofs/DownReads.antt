@@ -51,19 +51,12 @@ pub record DownAsked (x : Call) (nodes : List Node) (i p start f : ℕ) (ns rs :
   pub padded : CountsPadded max_kids x.tables.plausible_counts.now ((grammar_in x).kids p) ns
   pub end : ℕ
   pub kin : Kindred (plausible_ranks nodes) (subtree_ends nodes) i (length ((grammar_in x).kids p)) rs end
-  pub own : f ≡ get_or (feasible_ranks nodes) i 0
+  pub own : f ≡ (get_or nodes i unread).feasible.0
 
-pub asked : {x : Call} {nodes : List Node} {i p start f : ℕ} {ks ns rs : List ℕ} {end : ℕ} → p < (grammar_in x).prods → start ≡ down_start_in x p
-    → CountsPadded max_kids x.tables.plausible_counts.now ((grammar_in x).kids p) ns → ks ≡ (grammar_in x).kids p
-    → Kindred (plausible_ranks nodes) (subtree_ends nodes) i (length ks) rs end → f ≡ (get_or nodes i unread).feasible.0 → DownAsked x nodes i p start f ns rs
-asked {x} {nodes} {i} {rs = rs} {end} known begins padded ek kin own = record {
-  known = known;
-  begins = begins;
-  padded = padded;
-  end = end;
-  kin = subst (λ n. Kindred (plausible_ranks nodes) (subtree_ends nodes) i n rs end) (ap length ek) kin;
-  own = own ∙ sym (feasible_at nodes i);
-}
+pub asked : {x : Call} {nodes : List Node} {i p start : ℕ} {ns rs : List ℕ} {end : ℕ} → p < (grammar_in x).prods → start ≡ down_start_in x p
+    → CountsPadded max_kids x.tables.plausible_counts.now ((grammar_in x).kids p) ns
+    → Kindred (plausible_ranks nodes) (subtree_ends nodes) i (length ((grammar_in x).kids p)) rs end → DownAsked x nodes i p start (get_or nodes i unread).feasible.0 ns rs
+asked known begins padded kin = record { known = known; begins = begins; padded = padded; end = _; kin = kin; own = refl }
 
 module _ {x : Call} {nodes : List Node} {i p start f : ℕ} {ns rs : List ℕ} (a : DownAsked x nodes i p start f ns rs) where
   few : length ((grammar_in x).kids p) ≤ max_kids
@@ -89,7 +82,7 @@ module _ {x : Call} {nodes : List Node} {i p start f : ℕ} {ns rs : List ℕ} (
         ap (λ y. down_number y ns f rs) a.begins
         ∙ down_number_is G a.padded (kin_long G T ds (G.kids p) (plausible_ranks nodes) (subtree_ends nodes) i kinded ended_kin ra)
         (kin_padded G T ds (G.kids p) (plausible_ranks nodes) (subtree_ends nodes) i kinded ended_kin ra a.kin) T.feasible_counts f
-        ∙ ap (λ y. down_entry G T.plausible_counts T.feasible_counts p y (ranks G T ds)) (a.own ∙ right)
+        ∙ ap (λ y. down_entry G T.plausible_counts T.feasible_counts p y (ranks G T ds)) (a.own ∙ sym (feasible_at nodes i) ∙ right)
         ∙ ap₂ (λ q es. down_entry G T.plausible_counts T.feasible_counts q v.feasible (ranks G T es)) (sym ep) (sym ed)
 
     -- the children's ranks are those that the walk gives them

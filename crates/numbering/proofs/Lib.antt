@@ -25,3 +25,7 @@ pub mod Slots
 pub mod Families
 pub mod Instances
 pub mod Walking
+pub mod Counted
+pub mod Filling
+pub mod Due
+pub mod Settled

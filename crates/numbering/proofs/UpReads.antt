@@ -17,12 +17,13 @@ use Rattle.chains.proofs.Nodes.{sub_in, sub_one}
 use Rattle.ranks.specs.Entries.{up_entry, none}
 use Rattle.ranks.specs.Reads.{up_number}
 use Rattle.ranks.specs.declared.Plausible.{Plausible}
+use Rattle.ranks.specs.Padded.{CountsPadded}
 use Rattle.ranks.proofs.Padded.{up_number_is}
 use Rattle.numbering.specs.Walk.{ranks}
 use Rattle.numbering.specs.Promise.{BadUp}
 use Rattle.numbering.specs.Visits.{rank_of}
 use Rattle.numbering.specs.Nodes.{plausible_ranks, subtree_ends}
-use Rattle.numbering.specs.Parts.{grammar_in, tables_in, TreeIn, up_start_in, Children, Kindred, Ended, Ranked, NoBadUp, UpNodeIs, UpNodeRead, UpReads}
+use Rattle.numbering.specs.Parts.{grammar_in, tables_in, TreeIn, up_start_in, Children, Kindred, Ended, Ranked, NoBadUp, UpNodeIs, UpReads}
 use Rattle.numbering.specs.declared.call.Call.{Call}
 use Rattle.numbering.specs.declared.nodes.Node.{Node}
 use Rattle.numbering.proofs.Keeping.{plausible_long, ends_long, plausible_set, ends_set}
@@ -72,39 +73,36 @@ module _ {x : Call} {nodes : List Node} {i : ℕ} (g : UpGoing x nodes i) (some 
   pub going_known : get_or x.sheet.now (i - 1) 0 < (grammar_in x).prods
   going_known = (node (tree_in x)).known
 
-  pub going_children : {ks : List ℕ} → ks ≡ (grammar_in x).kids (get_or x.sheet.now (i - 1) 0) → Children (subtree_ends nodes) (i - 1) (length ks)
-  going_children e =
+  pub going_children : Children (subtree_ends nodes) (i - 1) (length ((grammar_in x).kids (get_or x.sheet.now (i - 1) 0)))
+  going_children =
       let n = node (tree_in x) in
-      rw e (children_of (subtree_ends nodes) (i - 1) n.below (ended (tree_in x)) (grammar_in x) ((grammar_in x).kids (get_or x.sheet.now (i - 1) 0)) n.kinded
-      (few_kids x n.known) (omega (arith, n.inside, few_nodes x)))
+      children_of (subtree_ends nodes) (i - 1) n.below (ended (tree_in x)) (grammar_in x) ((grammar_in x).kids (get_or x.sheet.now (i - 1) 0)) n.kinded
+      (few_kids x n.known) (omega (arith, n.inside, few_nodes x))
 
   -- what is read there
-  module _ {start : ℕ} {ks rs : List ℕ} {end : ℕ} {r : Option Plausible} (begins : start ≡ up_start_in x (get_or x.sheet.now (i - 1) 0))
-      (ek : ks ≡ (grammar_in x).kids (get_or x.sheet.now (i - 1) 0)) (kin : Kindred (plausible_ranks nodes) (subtree_ends nodes) (i - 1) (length ks) rs end)
-      (read : UpNodeRead x (get_or x.sheet.now (i - 1) 0) start rs r) where
+  module _ {start : ℕ} {ns rs : List ℕ} {end : ℕ} (begins : start ≡ up_start_in x (get_or x.sheet.now (i - 1) 0))
+      (padded : CountsPadded max_kids x.tables.plausible_counts.now ((grammar_in x).kids (get_or x.sheet.now (i - 1) 0)) ns)
+      (kin : Kindred (plausible_ranks nodes) (subtree_ends nodes) (i - 1) (length ((grammar_in x).kids (get_or x.sheet.now (i - 1) 0))) rs end) where
     module _ (t : TreeIn x) where
       ranked : Ranked (grammar_in x) (tables_in x) (node t).below (suc (i - 1)) 0 (plausible_ranks nodes)
       ranked = ranked_below (grammar_in x) (tables_in x) t.tree (node t).below (i - 1) (get_or x.sheet.now (i - 1) 0) i (plausible_ranks nodes) (node t).is_node (omega arith) (g.read_so_far t).1
 
-      own_kin : Kindred (plausible_ranks nodes) (subtree_ends nodes) (i - 1) (length ((grammar_in x).kids (get_or x.sheet.now (i - 1) 0))) rs end
-      own_kin = subst (λ n. Kindred (plausible_ranks nodes) (subtree_ends nodes) (i - 1) n rs end) (ap length ek) kin
-
-      entry_is : up_number start read.counts rs ≡ up_entry (grammar_in x) x.tables.plausible_counts.now (get_or x.sheet.now (i - 1) 0) (ranks (grammar_in x) (tables_in x) (node t).below)
+      entry_is : up_number start ns rs ≡ up_entry (grammar_in x) x.tables.plausible_counts.now (get_or x.sheet.now (i - 1) 0) (ranks (grammar_in x) (tables_in x) (node t).below)
       entry_is =
           let ks = (grammar_in x).kids (get_or x.sheet.now (i - 1) 0) in
-          ap (λ s. up_number s read.counts rs) begins
-          ∙ up_number_is (grammar_in x) read.padded (kin_long (grammar_in x) (tables_in x) (node t).below ks (plausible_ranks nodes) (subtree_ends nodes) (i - 1) (node t).kinded (ended t) ranked)
-          (kin_padded (grammar_in x) (tables_in x) (node t).below ks (plausible_ranks nodes) (subtree_ends nodes) (i - 1) (node t).kinded (ended t) ranked own_kin)
+          ap (λ s. up_number s ns rs) begins
+          ∙ up_number_is (grammar_in x) padded (kin_long (grammar_in x) (tables_in x) (node t).below ks (plausible_ranks nodes) (subtree_ends nodes) (i - 1) (node t).kinded (ended t) ranked)
+          (kin_padded (grammar_in x) (tables_in x) (node t).below ks (plausible_ranks nodes) (subtree_ends nodes) (i - 1) (node t).kinded (ended t) ranked kin)
 
       end_is : end ≡ suc (i - 1 + size (node t).below)
       end_is =
-          kin_end (grammar_in x) (tables_in x) (node t).below ((grammar_in x).kids (get_or x.sheet.now (i - 1) 0)) (plausible_ranks nodes) (subtree_ends nodes) (i - 1) (node t).kinded (ended t) ranked own_kin
+          kin_end (grammar_in x) (tables_in x) (node t).below ((grammar_in x).kids (get_or x.sheet.now (i - 1) 0)) (plausible_ranks nodes) (subtree_ends nodes) (i - 1) (node t).kinded (ended t) ranked kin
 
-      bad : UpNodeIs x (get_or x.sheet.now (i - 1) 0) (up_number start read.counts rs) None → BadUp (grammar_in x) (tables_in x) (get_or x.sheet.now (i - 1) 0) (node t).below
+      bad : UpNodeIs x (get_or x.sheet.now (i - 1) 0) (up_number start ns rs) None → BadUp (grammar_in x) (tables_in x) (get_or x.sheet.now (i - 1) 0) (node t).below
       bad (inl h) = inl (rw entry_is at h)
       bad (inr h) = inr (rw entry_is at h)
 
-      module _ {rank : Plausible} (found : UpNodeIs x (get_or x.sheet.now (i - 1) 0) (up_number start read.counts rs) (Some rank)) where
+      module _ {rank : Plausible} (found : UpNodeIs x (get_or x.sheet.now (i - 1) 0) (up_number start ns rs) (Some rank)) where
         fine : BadUp (grammar_in x) (tables_in x) (get_or x.sheet.now (i - 1) 0) (node t).below → ⊥
         fine (inl h) = omega (arith, found.0, entry_is)
         fine (inr h) = omega (arith, found.2, found.1, ap (λ e. get_or x.tables.up.now e none) entry_is)
@@ -112,10 +110,10 @@ module _ {x : Call} {nodes : List Node} {i : ℕ} (g : UpGoing x nodes i) (some 
         rank_is : rank.0 ≡ rank_of (grammar_in x) (tables_in x) (get_or x.sheet.now (i - 1) 0) (node t).below
         rank_is = found.1 ∙ ap (λ e. get_or x.tables.up.now e none) entry_is
 
-    pub going_bad : r ≡ None → (z : Refused) → z ≡ record { refusal = BadTables; place = i - 1 } → UpReads x nodes (Err z)
-    going_bad e z ez = record {
+    pub going_bad : {r : Option Plausible} → UpNodeIs x (get_or x.sheet.now (i - 1) 0) (up_number start ns rs) r → r ≡ None → (z : Refused) → z ≡ record { refusal = BadTables; place = i - 1 } → UpReads x nodes (Err z)
+    going_bad read e z ez = record {
       case = λ t.
-          let c = subst (UpNodeIs x (get_or x.sheet.now (i - 1) 0) (up_number start read.counts rs)) e read.case in (
+          let c = subst (UpNodeIs x (get_or x.sheet.now (i - 1) 0) (up_number start ns rs)) e read in (
             ap (λ (y : Refused). number_of y.refusal) ez,
             (get_or x.sheet.now (i - 1) 0, (node t).below, subst (λ m. Sub t.tree 0 m (get_or x.sheet.now (i - 1) 0) (node t).below) (sym place_is) (node t).is_node, bad t c),
             λ m q ds s k. (g.read_so_far t).0 m q ds s (omega (arith, place_is)),
@@ -128,8 +126,8 @@ module _ {x : Call} {nodes : List Node} {i : ℕ} (g : UpGoing x nodes i) (some 
     pub going_end : end ≤ max_nodes
     going_end = omega (arith, end_is (tree_in x), (node (tree_in x)).inside, few_nodes x)
 
-    pub going_turn : {rank : Plausible} → r ≡ Some rank → (n : Node) → n.plausible.0 ≡ rank.0 → n.end ≡ end → UpGoing x (set nodes (i - 1) n) (i - 1)
-    going_turn {rank} e n er ee = record {
+    pub going_turn : {r : Option Plausible} → UpNodeIs x (get_or x.sheet.now (i - 1) 0) (up_number start ns rs) r → {rank : Plausible} → r ≡ Some rank → (n : Node) → n.plausible.0 ≡ rank.0 → n.end ≡ end → UpGoing x (set nodes (i - 1) n) (i - 1)
+    going_turn read {rank} e n er ee = record {
       within = omega (arith, g.within);
       long = length-set nodes (i - 1) n ∙ g.long;
       read_so_far = λ t. (
@@ -139,8 +137,8 @@ module _ {x : Call} {nodes : List Node} {i : ℕ} (g : UpGoing x nodes i) (some 
       );
     }
       where
-        found : UpNodeIs x (get_or x.sheet.now (i - 1) 0) (up_number start read.counts rs) (Some rank)
-        found = subst (UpNodeIs x (get_or x.sheet.now (i - 1) 0) (up_number start read.counts rs)) e read.case
+        found : UpNodeIs x (get_or x.sheet.now (i - 1) 0) (up_number start ns rs) (Some rank)
+        found = subst (UpNodeIs x (get_or x.sheet.now (i - 1) 0) (up_number start ns rs)) e read
 
         now : (t : TreeIn x) (m q : ℕ) (ds : Bush) → Sub t.tree 0 m q ds → m ≡ i - 1
             → (BadUp (grammar_in x) (tables_in x) q ds → ⊥) × (n.plausible.0 ≡ rank_of (grammar_in x) (tables_in x) q ds) × (n.end ≡ suc (m + size ds))

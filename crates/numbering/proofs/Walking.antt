@@ -3,10 +3,10 @@ use mathlib.Core.Path.{◌≡◌, refl, sym, ap, ap₂, subst, ◌∙◌}
 use mathlib.Core.Logic.{◌⊎◌, inl, inr}
 use mathlib.Core.List.{List, [], ◌∷◌, ◌++◌, append-nil}
 use Prim.Native.Nat.{ℕ, zero, suc, ◌+◌, ◌*◌, ◌≤◌, ◌<◌}
-use native.Mathlib.Decide.{ℕ_discrete}
+use native.Mathlib.Decide.{dec_lt, ℕ_discrete}
 use native.Mathlib.Numerals.{add-one}
 use native.Mathlib.Omega.{arith}
-use lib.ListN.{length, get_or, take, drop, replicate, length-replicate, length-append, length-drop, take-append-drop}
+use lib.ListN.{length, get_or, take, drop, replicate, length-replicate, get_or-replicate, get_or-eq_default, length-append, length-drop, take-append-drop}
 use lib.Seq.{drop-cons, drop-length, take-suc, take-add, take_all, take-length, take_at, drop_at, length-take-le}
 use Rattle.std.proofs.lemmas.Slice.{drop-append-drop}
 use Rattle.lists.specs.Part.{part}
@@ -28,7 +28,6 @@ use Rattle.numbering.specs.declared.nodes.Node.{Node}
 use Rattle.numbering.specs.declared.numbers.Holder.{Holder}
 use Rattle.numbering.proofs.Keeping.{unread, entry_at}
 use Rattle.numbering.proofs.Calls.{tree_in, few_nodes, some_nodes, known_in, few_kids, left_low, accepted_in}
-use Rattle.numbering.proofs.Children.{replicate_default}
 use Rattle.numbering.proofs.Labelled.{numbered_long, slot_labels_long}
 use Rattle.numbering.proofs.Holders.{holding_none}
 use Rattle.numbering.proofs.Visits.{owns_of, owns_append, Linked, linked_rises}
@@ -95,8 +94,15 @@ pub record Walking (x : Call) (nodes : List Node) (holders : List Holder) (g₀ 
       × ((a q : ℕ) (ds : Bush) (j m : ℕ) → Sub t.tree 0 a q ds → a < i → Root ds (suc a) j m → Written (grammar_in x) x.sheet.now g m (visit (grammar_in x) (tables_in x) t.tree m).own)
 
 -- at first nothing is held
+nobody_at : (n y : ℕ) → get_or (replicate n nobody) y nobody ≡ nobody
+nobody_at n y = go (dec_lt y n)
+  where
+    go : Dec (y < n) → get_or (replicate n nobody) y nobody ≡ nobody
+    go (yes h) = get_or-replicate n y nobody nobody h
+    go (no h) = get_or-eq_default (replicate n nobody) nobody (omega (arith, length-replicate {A = Holder} n nobody))
+
 none_held : Holding [] 1 (replicate labels_known nobody)
-none_held = holding_none (length-replicate {A = Holder} labels_known nobody) (λ y. omega (arith, ap (λ (h : Holder). h.stamp) (replicate_default labels_known y nobody)))
+none_held = holding_none (length-replicate {A = Holder} labels_known nobody) (λ y. omega (arith, ap (λ (h : Holder). h.stamp) (nobody_at labels_known y)))
 
 -- the root's own settings, wide of them, are numbered first
 root_first : (x : Call) {wide : ℕ} → wide ≡ (grammar_in x).settings ((grammar_in x).left (get_or x.sheet.now 0 0)) → wide ≤ all_settings (grammar_in x) x.sheet.now

@@ -10,3 +10,4 @@ pub mod Unrefused
 pub mod Nodes
 pub mod Parts
 pub mod Giving
+pub mod Admitting

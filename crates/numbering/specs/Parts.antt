@@ -8,22 +8,25 @@ use Rattle.chains.specs.Grammar.{Grammar}
 use Rattle.chains.specs.Tree.{Bush, size, Sub}
 use Rattle.book.specs.Format.{grammar, prods}
 use Rattle.ranks.specs.Entries.{up_start, down_start, none}
-use Rattle.ranks.specs.Reads.{up_number, child_rank_at}
-use Rattle.ranks.specs.Padded.{CountsPadded}
+use Rattle.ranks.specs.Reads.{child_rank_at}
 use Rattle.ranks.specs.declared.Plausible.{Plausible}
 use Rattle.numbering.specs.Walk.{Tables, tables}
 use Rattle.numbering.specs.Promise.{TreeOf, BadUp, BadRoot, BadDown, entry_at}
 use Rattle.numbering.specs.Visits.{rank_of, entry_in, visit}
 use Rattle.numbering.specs.Nodes.{plausible_ranks, feasible_ranks, subtree_ends, down_entries, SameUpward, OnlyFeasible}
 use Rattle.numbering.specs.declared.call.Call.{Call}
+use Rattle.numbering.specs.declared.call.Tables as declared
 use Rattle.numbering.specs.declared.nodes.Node.{Node}
 
 -- ── what a call goes by ──
 abbrev pub grammar_in : Call → Grammar
 grammar_in x = grammar x.book.now
 
+abbrev pub tables_of : declared.Tables → Tables
+tables_of t = tables t.plausible_counts.now t.feasible_counts.now t.up.now t.down.now
+
 abbrev pub tables_in : Call → Tables
-tables_in x = tables x.tables.plausible_counts.now x.tables.feasible_counts.now x.tables.up.now x.tables.down.now
+tables_in x = tables_of x.tables
 
 abbrev pub TreeIn : Call → Type 0
 TreeIn x = TreeOf (grammar_in x) x.sheet.now
@@ -81,16 +84,11 @@ Ranked G T f n k plausible = (i q : ℕ) (ds : Bush) → Sub f n i q ds → k �
 abbrev pub NoBadUp : Grammar → Tables → Bush → ℕ → Type 0
 NoBadUp G T f k = (i q : ℕ) (ds : Bush) → Sub f 0 i q ds → k ≤ i → BadUp G T q ds → ⊥
 
--- the read at a node of production p, by its children's ranks rs, which are 0 past the last child: its own rank; none where it is bad
+-- the read at a node of production p, of the up entry e: its own rank; none where it is bad
 abbrev pub UpNodeIs : Call → ℕ → ℕ → Option Plausible → Type 0
 UpNodeIs x p e (Some r) = (e < length x.tables.up.now) × (r.0 ≡ get_or x.tables.up.now e none)
     × (r.0 < get_or x.tables.plausible_counts.now ((grammar_in x).left p) 0)
 UpNodeIs x p e None = (length x.tables.up.now ≤ e) ⊎ (get_or x.tables.plausible_counts.now ((grammar_in x).left p) 0 ≤ get_or x.tables.up.now e none)
-
-pub record UpNodeRead (x : Call) (p start : ℕ) (rs : List ℕ) (r : Option Plausible) : Type 0 where
-  pub counts : List ℕ
-  pub padded : CountsPadded max_kids x.tables.plausible_counts.now ((grammar_in x).kids p) counts
-  pub case : UpNodeIs x p (up_number start counts rs) r
 
 -- a read that fails is answered with 25
 abbrev pub Is25 : Refused → Type 0

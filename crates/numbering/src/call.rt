@@ -3,11 +3,9 @@ ghost use Rattle.std.specs.Prelude.{◌≡◌, ◌≤◌, ◌<◌, length};
 ghost use Rattle.chains.specs.Limits.{max_kids, max_settings};
 ghost use Rattle.book.specs.Format.{kinds, prods, grammar};
 ghost use Rattle.book.specs.Reading.{Index};
-ghost use Rattle.ranks.specs.Padded.{CountsPadded};
 ghost use Rattle.numbering.specs.Unrefused.{Unrefused};
 
 use super::limits::PRODUCTIONS;
-use ranks::KIDS;
 
 // Anyone's tables: the counts of the plausible and of the feasible sets, and the entries of the up and of the down table.
 #[derive(Clone, Copy)]
@@ -32,22 +30,6 @@ pub struct Call<'a> {
 }
 
 impl<'a> Call<'a> {
-    pub fn new(book: &'a [u8], sheet: &'a [u8], tables: Tables<'a>) -> Self
-        requires unrefused { Unrefused book.now sheet.now }
-        requires plausible_counted { kinds book.now ≤ length tables.plausible_counts.now }
-        requires feasible_counted { kinds book.now ≤ length tables.feasible_counts.now }
-        ensures book { result.book ≡ book.entry }
-        ensures sheet { result.sheet ≡ sheet.entry }
-        ensures tables { result.tables ≡ tables.entry }
-    {
-        Call {
-            book,
-            places: book::index(book),
-            sheet,
-            tables,
-        }
-    }
-
     // The left kind of production p.
     pub fn left(&self, p: u8) -> u8
         requires { p < prods self.now.book.now }
@@ -76,18 +58,5 @@ impl<'a> Call<'a> {
         ensures few { result ≤ max_settings }
     {
         book::settings(self.book, kind) as usize
-    }
-
-    // The counts of the plausible sets of the children of production p; 1 past the last child.
-    pub fn kid_counts(&self, p: u8) -> [u8; KIDS]
-        requires { p < prods self.now.book.now }
-        ensures { CountsPadded max_kids self.now.tables.plausible_counts.now ((grammar self.now.book.now).kids p) result }
-    {
-        let kids = self.kids(p);
-        let mut counts = [1; KIDS];
-        for (j, &kind) in kids.iter().enumerate() {
-            counts[j] = self.tables.plausible_counts[kind as usize];
-        }
-        counts
     }
 }

@@ -38,9 +38,9 @@ fn read_node(call: &Call, i: usize, p: u8, start: u64, nodes: &mut [Node; NODES]
     requires children { Children (subtree_ends nodes.old) i (length ((grammar call.now.book.now).kids p)) }
     ensures { DownNodeRead call.now i p nodes.old nodes.new result }
 {
-    let kin = kin_of(nodes, i, call.kids(p).len());
+    let kin = kin_of(call, nodes, i, p);
     let own = nodes[i].feasible;
-    let entry = ranks::read_down(call.tables.down, start, call.kid_counts(p), own, kin.ranks)?;
+    let entry = ranks::read_down(call.tables.down, start, own, kin.children)?;
     if !hand_down(call, i, p, entry, nodes) {
         return None;
     }

@@ -1,11 +1,15 @@
 // What a call comes to know of each node: its ranks, of two types so that neither is taken for the other, and where things stand.
-ghost use Rattle.std.specs.Prelude.{length};
-ghost use Rattle.ranks.specs.Reads.{numbers};
+ghost use Rattle.std.specs.Prelude.{◌<◌, length};
+ghost use Rattle.chains.specs.Limits.{max_kids};
+ghost use Rattle.book.specs.Format.{prods, grammar};
+ghost use Rattle.ranks.specs.Reads.{counts_of, numbers};
+ghost use Rattle.ranks.specs.Padded.{CountsPadded};
 ghost use Rattle.numbering.specs.Nodes.{plausible_ranks, subtree_ends};
 ghost use Rattle.numbering.specs.Parts.{Children, Kindred};
 
+use super::call::Call;
 use super::limits::NODES;
-use ranks::{Feasible, KIDS, Plausible};
+use ranks::{Chosen, Feasible, KIDS, Plausible};
 
 // The subtree of a node ends at the place behind its last node; the settings of the sheet are counted from the first node's on.
 #[derive(Clone, Copy)]
@@ -26,25 +30,34 @@ pub const UNREAD: Node = Node {
     entry: 0,
 };
 
-// The plausible ranks of a node's children, and where the last of them ends.
+// A node's children as a read takes them, and where the last of them ends.
 #[derive(Clone, Copy)]
 pub struct Kin {
-    pub ranks: [Plausible; KIDS],
+    pub children: [Chosen; KIDS],
     pub end: usize,
 }
 
-// Those of the first `kids` children of node i; 0 past the last.
+// Those of node i, of production p: their counts and plausible ranks; past the last a count of 1 and a rank of 0.
 // The first child stands right after its parent, and each further one where the subtree of the one before it ends.
-pub fn kin_of(nodes: &[Node; NODES], i: usize, kids: usize) -> Kin
-    requires { Children (subtree_ends nodes.now) i kids }
-    ensures { Kindred (plausible_ranks nodes.now) (subtree_ends nodes.now) i kids (numbers result.ranks) result.end }
+pub fn kin_of(call: &Call, nodes: &[Node; NODES], i: usize, p: u8) -> Kin
+    requires known { p < prods call.now.book.now }
+    requires children { Children (subtree_ends nodes.now) i (length ((grammar call.now.book.now).kids p)) }
+    ensures counts { CountsPadded max_kids call.now.tables.plausible_counts.now ((grammar call.now.book.now).kids p) (counts_of result.children) }
+    ensures ranks { Kindred (plausible_ranks nodes.now) (subtree_ends nodes.now) i (length ((grammar call.now.book.now).kids p)) (numbers result.children) result.end }
 {
-    let mut ranks = [Plausible(0); KIDS];
+    let none = Chosen {
+        count: 1,
+        rank: Plausible(0),
+    };
+    let mut children = [none; KIDS];
     let mut at = i + 1;
-    for rank in &mut ranks[..kids] {
+    for (j, &kind) in call.kids(p).iter().enumerate() {
         let child = nodes[at];
-        *rank = child.plausible;
+        children[j] = Chosen {
+            count: call.tables.plausible_counts[kind as usize],
+            rank: child.plausible,
+        };
         at = child.end as usize;
     }
-    Kin { ranks, end: at }
+    Kin { children, end: at }
 }

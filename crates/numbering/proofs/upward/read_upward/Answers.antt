@@ -8,11 +8,11 @@ use Rattle.numbering.proofs.upward.read_upward.Goals as goal
 pub loop-i-init : goal.loop-i-init
 loop-i-init c = going_none c.args.call.now c.told-nodes
 
-pub kids-requires : goal.kids-requires
-kids-requires c = going_known c.loop-i.invariant c.loop-i-test.true
+pub kin_of-kin-requires-clause-known : goal.kin_of-kin-requires-clause-known
+kin_of-kin-requires-clause-known c = going_known c.loop-i.invariant c.loop-i-test.true
 
-pub kin_of-kin-requires : goal.kin_of-kin-requires
-kin_of-kin-requires c = going_children c.loop-i.invariant c.loop-i-test.true c.kids.ensures.are
+pub kin_of-kin-requires-clause-children : goal.kin_of-kin-requires-clause-children
+kin_of-kin-requires-clause-children c = going_children c.loop-i.invariant c.loop-i-test.true
 
 pub bounds-starts-p : goal.bounds-starts-p
 bounds-starts-p c = few_prods c.args.call.now (going_known c.loop-i.invariant c.loop-i-test.true)
@@ -28,12 +28,12 @@ returns-in_err-rank c =
     let p = err_from_is_err_and c.from_residual.result c.from_residual.ensures.1 in
     let f = ok_or_none c.read_node.result c.at.result c.in_err-rank.ensures.value in
     let begins = c.up_starts-starts.ensures.each _ (going_known c.loop-i.invariant c.loop-i-test.true) in
-    rw p.1 (going_bad c.loop-i.invariant c.loop-i-test.true begins c.kids.ensures.are c.kin_of-kin.ensures c.read_node.ensures f.0 _ (p.2 ∙ f.1 ∙ c.at.ensures))
+    rw p.1 (going_bad c.loop-i.invariant c.loop-i-test.true begins c.kin_of-kin.ensures.counts c.kin_of-kin.ensures.ranks c.read_node.ensures f.0 _ (p.2 ∙ f.1 ∙ c.at.ensures))
 
 pub overflow_cast-node : goal.overflow_cast-node
 overflow_cast-node c =
     let begins = c.up_starts-starts.ensures.each _ (going_known c.loop-i.invariant c.loop-i-test.true) in
-    omega (arith, going_end c.loop-i.invariant c.loop-i-test.true begins c.kids.ensures.are c.kin_of-kin.ensures c.read_node.ensures)
+    omega (arith, going_end c.loop-i.invariant c.loop-i-test.true begins c.kin_of-kin.ensures.counts c.kin_of-kin.ensures.ranks)
 
 pub bounds-nodes-i : goal.bounds-nodes-i
 bounds-nodes-i c = going_inside c.loop-i.invariant c.loop-i-test.true
@@ -42,7 +42,7 @@ pub loop-i-preserved : goal.loop-i-preserved
 loop-i-preserved c =
     let found = ok_or_some c.read_node.result c.at.result c.in_ok-rank.ensures.value in
     let begins = c.up_starts-starts.ensures.each _ (going_known c.loop-i.invariant c.loop-i-test.true) in
-    going_turn c.loop-i.invariant c.loop-i-test.true begins c.kids.ensures.are c.kin_of-kin.ensures c.read_node.ensures found _ refl refl
+    going_turn c.loop-i.invariant c.loop-i-test.true begins c.kin_of-kin.ensures.counts c.kin_of-kin.ensures.ranks c.read_node.ensures found _ refl refl
 
 pub returns : goal.returns
 returns c = going_done c.loop-i.invariant c.loop-i-test.false
