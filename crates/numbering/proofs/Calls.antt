@@ -1,10 +1,10 @@
 -- What a call may lean on: its book is accepted, and its sheet is a tree of it.
-use Rattle.std.proofs.Common.{◌≡◌, List, ℕ, ◌+◌, ◌-◌, ◌<◌, ◌≤◌, length, get_or, take, drop, refl, sym, ap, ◌∙◌, arith, length-take, length-drop}
+use Rattle.std.proofs.Common.{◌≡◌, List, ℕ, ◌+◌, ◌-◌, ◌<◌, ◌≤◌, length, get_or, take, drop, refl, ap, ◌∙◌, arith}
 use Rattle.chains.specs.Limits.{max_settings, max_kids, max_prods, max_nodes}
-use Rattle.book.specs.Format.{kinds, prods, start, trailer, left_at, arity_at, after_kids, entry, grammar}
+use Rattle.book.specs.Format.{kinds, prods, left_at, arity_at, entry}
 use Rattle.book.specs.Reading.{told, settings_of}
 use Rattle.bookcheck.specs.Accepted.{Accepted}
-use Rattle.bookcheck.proofs.Accepted.{told_kinds, told_prods, told_start, place_read, settings_read, arity_read, inside}
+use Rattle.bookcheck.proofs.Accepted.{told_kinds, told_prods, told_start, place_read, settings_read, inside}
 use Rattle.sheet.specs.Trees.{Fits}
 use Rattle.sheet.proofs.Accepted.{book_accepted, accepted_sheet}
 use Rattle.numbering.specs.Parts.{grammar_in, TreeIn}

@@ -18,7 +18,7 @@ use Rattle.bookcheck.proofs.Accepted.{told_start}
 use Rattle.numbering.specs.Walk.{Tables, ranks, started}
 use Rattle.numbering.specs.Promise.{BadRoot}
 use Rattle.numbering.specs.Nodes.{plausible_ranks, feasible_ranks, subtree_ends, down_entries}
-use Rattle.numbering.specs.Parts.{grammar_in, tables_in, TreeIn, Ended, Ranked, NoBadUp, UpIs, UpReads, RightRank, NoBadDown, DownIs, DownReads, Fails, upward, root, downward, ChoiceIs, Choice}
+use Rattle.numbering.specs.Parts.{grammar_in, tables_in, TreeIn, Ended, Ranked, NoBadUp, UpReads, RightRank, NoBadDown, DownIs, DownReads, Fails, upward, root, downward, ChoiceIs, Choice}
 use Rattle.numbering.specs.declared.call.Call.{Call}
 use Rattle.numbering.specs.declared.nodes.Node.{Node}
 use Rattle.numbering.proofs.Keeping.{unread, plausible_at, feasible_set, feasible_long, upward_set}

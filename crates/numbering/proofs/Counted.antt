@@ -1,5 +1,5 @@
 -- The counts of the sets against their limit.
-use Rattle.std.proofs.Common.{◌≡◌, ◌⊎◌, ◌↔◌, inl, inr, Bool, true, false, List, ℕ, ◌<◌, ◌≤◌, length, get_or, take, ap, sym, ◌∙◌, arith}
+use Rattle.std.proofs.Common.{◌≡◌, ◌⊎◌, ◌↔◌, inl, inr, Bool, true, false, List, ℕ, ◌<◌, ◌≤◌, length, get_or, take, arith}
 use Rattle.std.proofs.Math.Seq.{length-take-le, get_or-take}
 use Rattle.chains.specs.Limits.{max_members}
 use Rattle.numbering.specs.Promise.{BigCount}

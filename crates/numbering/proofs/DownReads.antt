@@ -10,7 +10,7 @@ use native.Mathlib.Numerals.{add-one}
 use native.Mathlib.Omega.{arith}
 use lib.ListN.{length, get_or, drop, set, length-set}
 use lib.Seq.{get_or-take, get_or-drop, get_or-set_same, get_or-set_other}
-use Rattle.std.specs.Prelude.{Option, Some, None, Result, Ok, Err}
+use Rattle.std.specs.Prelude.{Option, Some, None, Ok, Err}
 use Rattle.refusals.specs.Table.{number_of}
 use Rattle.refusals.specs.declared.Refused.{Refused}
 use Rattle.refusals.specs.declared.Refusal.TheVariants.{BadTables}
@@ -204,7 +204,7 @@ module _ {x : Call} {nodes₀ nodes : List Node} {i : ℕ} (g : DownGoing x node
           = subst (λ y. BadDown (grammar_in x) (tables_in x) (get_or x.sheet.now i 0) y) (sym (entry_here t)) bad in (
             ap (λ (y : Refused). number_of y.refusal) ez,
             subst (λ (m : ℕ). (q : ℕ) × (ds : Bush) × Sub t.tree 0 m q ds × BadDown (grammar_in x) (tables_in x) q (entry_at (grammar_in x) (tables_in x) t.tree m)) (sym place_is)
-            (get_or x.sheet.now i 0, n.below, n.is_node, bad_at),
+                (get_or x.sheet.now i 0, n.below, n.is_node, bad_at),
             subst (NoBadDown (grammar_in x) (tables_in x) t.tree) (sym place_is) (g.read_so_far t en ra ri).0,
           );
     }

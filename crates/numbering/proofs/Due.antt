@@ -10,7 +10,6 @@ use Rattle.lists.specs.Refusals.{accepted, refused, Sooner}
 use Rattle.chains.specs.Tree.{size}
 use Rattle.book.specs.Format.{grammar}
 use Rattle.sheet.specs.Reading.{all_settings}
-use Rattle.sheet.specs.Trees.{Fits}
 use Rattle.sheet.proofs.Accepted.{accepted_sheet}
 use Rattle.admission.specs.Refusals as admission
 use Rattle.admission.proofs.Turns.{row_number}

@@ -1,7 +1,7 @@
 -- The loop that numbers the settings of a node's children, one child after another.
 use mathlib.Core.Path.{◌≡◌, refl, sym, ap, ap₂, subst, ◌∙◌}
 use mathlib.Core.List.{List, [], ◌∷◌, ◌++◌, append_assoc, append-nil}
-use Prim.Native.Nat.{ℕ, suc, ◌+◌, ◌-◌, ◌*◌, ◌≤◌, ◌<◌}
+use Prim.Native.Nat.{ℕ, suc, ◌+◌, ◌*◌, ◌≤◌, ◌<◌}
 use native.Mathlib.Nat.{add-zero}
 use native.Mathlib.Decide.{dec_lt, ℕ_discrete}
 use native.Mathlib.Numerals.{add-one}
@@ -24,7 +24,7 @@ use Rattle.numbering.specs.declared.call.Call.{Call}
 use Rattle.numbering.specs.declared.nodes.Node.{Node}
 use Rattle.numbering.specs.declared.numbers.Holder.{Holder}
 use Rattle.numbering.proofs.Keeping.{unread, first_at, end_at}
-use Rattle.numbering.proofs.Calls.{few_nodes, few_kids, known_in}
+use Rattle.numbering.proofs.Calls.{few_kids, known_in}
 use Rattle.numbering.proofs.Children.{child_low, child_first, child_next}
 use Rattle.numbering.proofs.Labelled.{numbered_long, holding, numbered_append, unused_append, slot_labels_long, kid_labels_long}
 use Rattle.numbering.proofs.Slots.{holding_append}

@@ -1,14 +1,14 @@
 -- What is written once the choice is made: what the walk tells of the tree.
 use mathlib.Core.Path.{◌≡◌, refl, sym, ap, ap₂, subst, ◌∙◌}
 use mathlib.Core.List.{List, [], ◌∷◌, ◌++◌}
-use Prim.Native.Nat.{ℕ, suc, ◌+◌, ◌*◌, ◌≤◌, ◌<◌}
+use Prim.Native.Nat.{ℕ, suc, ◌*◌, ◌<◌}
 use native.Mathlib.Omega.{arith}
 use lib.ListN.{length, get_or, take, drop}
 use lib.Seq.{length-take-le, get_or-take}
 use Rattle.chains.specs.Limits.{max_nodes}
 use Rattle.chains.proofs.Nodes.{sub_all}
 use Rattle.sheet.specs.Reading.{all_settings}
-use Rattle.numbering.specs.Walk.{Tables, places, started}
+use Rattle.numbering.specs.Walk.{places, started}
 use Rattle.numbering.specs.Visits.{Visit, nowhere, rank_of, entry_in, journey, visit}
 use Rattle.numbering.specs.Parts.{grammar_in, tables_in, TreeIn, ChosenIn}
 use Rattle.numbering.specs.Giving.{rows, Given, Filled}

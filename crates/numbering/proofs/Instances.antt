@@ -1,14 +1,12 @@
 -- The visit of a node: its own settings hold their labels, then its children's are numbered.
-use mathlib.Core.Path.{◌≡◌, refl, sym, ap, ap₂, subst, ◌∙◌}
+use mathlib.Core.Path.{◌≡◌, sym, ap₂, subst, ◌∙◌}
 use mathlib.Core.List.{List, []}
-use Prim.Native.Nat.{ℕ, ◌+◌, ◌≤◌, ◌<◌}
+use Prim.Native.Nat.{ℕ, ◌+◌, ◌≤◌}
 use native.Mathlib.Omega.{arith}
 use lib.ListN.{length, get_or, take, drop}
-use Rattle.std.specs.Prelude.{Option}
-use Rattle.lists.specs.Part.{part}
 use Rattle.lists.proofs.Parts.{length_part}
 use Rattle.sheet.specs.Reading.{all_settings}
-use Rattle.numbering.specs.Walk.{tables, held, slot_labels, own_held}
+use Rattle.numbering.specs.Walk.{held, slot_labels, own_held}
 use Rattle.numbering.specs.Parts.{grammar_in, tables_in}
 use Rattle.numbering.specs.Giving.{labels_known, stamp_at, Holding, HeldOwn, Written, Ready, Instance}
 use Rattle.numbering.specs.declared.call.Call.{Call}

@@ -1,5 +1,5 @@
 -- Options answered as results: what was there, or the error that stands for none.
-use Rattle.std.proofs.Common.{◌≡◌, Option, Some, None, Result, Ok, Err, refl}
+use Rattle.std.proofs.Common.{◌≡◌, Option, Some, None, Ok, Err, refl}
 use Rattle.std.specs.Option.{ok_or}
 
 module _ {A E : Type 0} where

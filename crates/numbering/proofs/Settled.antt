@@ -4,8 +4,7 @@ use mathlib.Core.Bool.{Bool, true, false}
 use mathlib.Core.List.{List, [], ◌∷◌}
 use Prim.Native.Nat.{ℕ}
 use lib.ListN.{length}
-use Rattle.std.specs.Prelude.{◌↔◌, Result, Ok, Err}
-use Rattle.lists.specs.Refusals.{refused}
+use Rattle.std.specs.Prelude.{◌↔◌, Ok, Err}
 use Rattle.refusals.specs.declared.Refused.{Refused}
 use Rattle.refusals.specs.declared.Refusal.TheVariants.{BadTables}
 use Rattle.book.specs.Format.{grammar}
@@ -20,7 +19,6 @@ use Rattle.numbering.specs.Unrefused.{Unrefused}
 use Rattle.numbering.specs.Parts.{grammar_in, tables_in, Choice}
 use Rattle.numbering.specs.Giving.{Walkable, Filled}
 use Rattle.numbering.specs.Admitting.{measures, Clear}
-use Rattle.numbering.specs.declared.Counts.{Counts}
 use Rattle.numbering.specs.declared.call.Call.{Call}
 use Rattle.numbering.specs.declared.nodes.Node.{Node}
 use Rattle.numbering.proofs.Calls.{tree_in}

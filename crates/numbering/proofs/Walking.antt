@@ -7,7 +7,7 @@ use native.Mathlib.Decide.{dec_lt, ℕ_discrete}
 use native.Mathlib.Numerals.{add-one}
 use native.Mathlib.Omega.{arith}
 use lib.ListN.{length, get_or, take, drop, replicate, length-replicate, get_or-replicate, get_or-eq_default, length-append, length-drop, take-append-drop}
-use lib.Seq.{drop-cons, drop-length, take-suc, take-add, take_all, take-length, take_at, drop_at, length-take-le}
+use lib.Seq.{drop-cons, drop-length, take-suc, take-add, take_all, take-length, take_at, length-take-le}
 use Rattle.std.proofs.lemmas.Slice.{drop-append-drop}
 use Rattle.lists.specs.Part.{part}
 use Rattle.chains.specs.Limits.{max_settings, max_nodes}
@@ -18,7 +18,7 @@ use Rattle.chains.proofs.Nodes.{parent, sub_in, sub_child}
 use Rattle.chains.proofs.WellKinded.{sub_kinded, root_kids, root_kind, one_tree}
 use Rattle.sheet.specs.Reading.{all_settings}
 use Rattle.sheet.proofs.Reading.{settings_next}
-use Rattle.numbering.specs.Walk.{Tables, numbered, slot_labels, kid_labels, own_held, root_labels, group_numbers}
+use Rattle.numbering.specs.Walk.{numbered, slot_labels, kid_labels, own_held, root_labels, group_numbers}
 use Rattle.numbering.specs.Visits.{Visit, nowhere, entry_in, handed, after, journey, visit}
 use Rattle.numbering.specs.Nodes.{subtree_ends, down_entries, OnlyPlaces}
 use Rattle.numbering.specs.Parts.{grammar_in, tables_in, TreeIn, child_at, Children, Ended}
@@ -27,8 +27,7 @@ use Rattle.numbering.specs.declared.call.Call.{Call}
 use Rattle.numbering.specs.declared.nodes.Node.{Node}
 use Rattle.numbering.specs.declared.numbers.Holder.{Holder}
 use Rattle.numbering.proofs.Keeping.{unread, entry_at}
-use Rattle.numbering.proofs.Calls.{tree_in, few_nodes, some_nodes, known_in, few_kids, left_low, accepted_in}
-use Rattle.numbering.proofs.Labelled.{numbered_long, slot_labels_long}
+use Rattle.numbering.proofs.Calls.{few_nodes, some_nodes, few_kids, accepted_in}
 use Rattle.numbering.proofs.Holders.{holding_none}
 use Rattle.numbering.proofs.Visits.{owns_of, owns_append, Linked, linked_rises}
 use Rattle.numbering.proofs.Journey.{journey_long, visited, child_visited, root_visited, journey_linked, groups_owns, groups_few}

@@ -1,5 +1,5 @@
 -- What the parts of the call promise each other when they give the numbers. No promise of the library cites this page.
-use Rattle.std.specs.Prelude.{◌≡◌, true, false, Option, Some, None, List, [], ◌∷◌, ◌++◌, ℕ, zero, suc, ◌+◌, ◌*◌, ◌≤◌, ◌<◌, length, get_or, take, drop}
+use Rattle.std.specs.Prelude.{◌≡◌, true, false, Option, Some, None, List, [], ◌∷◌, ◌++◌, ℕ, ◌+◌, ◌*◌, ◌≤◌, ◌<◌, length, get_or, take, drop}
 use Rattle.lists.specs.Pick.{pick}
 use Rattle.lists.specs.Part.{part}
 use Rattle.chains.specs.Limits.{max_settings, max_nodes}

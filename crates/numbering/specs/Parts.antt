@@ -6,7 +6,7 @@ use Rattle.refusals.specs.declared.Refused.{Refused}
 use Rattle.chains.specs.Limits.{max_kids, max_nodes}
 use Rattle.chains.specs.Grammar.{Grammar}
 use Rattle.chains.specs.Tree.{Bush, size, Sub}
-use Rattle.book.specs.Format.{grammar, prods}
+use Rattle.book.specs.Format.{grammar}
 use Rattle.ranks.specs.Entries.{up_start, down_start, none}
 use Rattle.ranks.specs.Reads.{child_rank_at}
 use Rattle.ranks.specs.declared.Plausible.{Plausible}

@@ -54,8 +54,9 @@ pub fn read_downward(call: &Call, nodes: &mut [Node; NODES]) -> Result<(), Refus
 {
     let starts = down_starts(call);
     for (i, &p) in call.sheet.iter().enumerate() {
-        let entry = read_node(call, i, p, starts[p as usize], nodes)
-            .ok_or(Refusal::BadTables.at(i as u16))?;
+        let entry = read_node(call, i, p, starts[p as usize], nodes).ok_or(Refusal::BadTables.at(
+            i as u16,
+        ))?;
         nodes[i].entry = entry;
     }
     Ok(())

@@ -101,7 +101,13 @@ fn number_node(
     let stamp = i as u16 + 2;
     let at = node.first_setting as usize;
     let own = call.width(call.left(p));
-    hold_own(holders, call.tables.down, node.entry, stamp, &groups[at..at + own]);
+    hold_own(
+        holders,
+        call.tables.down,
+        node.entry,
+        stamp,
+        &groups[at..at + own],
+    );
     let mut next = first;
     let mut child = i + 1;
     for (j, &kind) in call.kids(p).iter().enumerate() {
@@ -109,7 +115,15 @@ fn number_node(
         let at = kid.first_setting as usize;
         let width = call.width(kind);
         let slot = &mut groups[at..at + width];
-        next = number_slot(holders, call.tables.down, node.entry, j + 1, stamp, next, slot);
+        next = number_slot(
+            holders,
+            call.tables.down,
+            node.entry,
+            j + 1,
+            stamp,
+            next,
+            slot,
+        );
         child = kid.end as usize;
     }
     next
@@ -125,7 +139,15 @@ pub fn number_all(call: &Call, nodes: &mut [Node; NODES], groups: &mut [u16]) ->
     let own = call.width(call.left(call.sheet[0]));
     let mut holders = [NOBODY; LABELS];
     let root = &mut groups[..own];
-    let mut next = number_slot(&mut holders, call.tables.down, nodes[0].entry, 0, 1, 0, root);
+    let mut next = number_slot(
+        &mut holders,
+        call.tables.down,
+        nodes[0].entry,
+        0,
+        1,
+        0,
+        root,
+    );
     for i in 0..call.sheet.len() {
         next = number_node(call, nodes, i, next, &mut holders, groups);
     }

@@ -29,8 +29,9 @@ pub fn read_upward(call: &Call, nodes: &mut [Node; NODES]) -> Result<(), Refused
     for i in (0..call.sheet.len()).rev() {
         let p = call.sheet[i];
         let kin = kin_of(call, nodes, i, p);
-        let rank = read_node(call, p, starts[p as usize], kin.children)
-            .ok_or(Refusal::BadTables.at(i as u16))?;
+        let rank = read_node(call, p, starts[p as usize], kin.children).ok_or(Refusal::BadTables.at(
+            i as u16,
+        ))?;
         let node = &mut nodes[i];
         node.plausible = rank;
         node.end = kin.end as u16;

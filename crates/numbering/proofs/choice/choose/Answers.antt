@@ -1,6 +1,5 @@
-use Rattle.std.proofs.Common.{arith, refl, ◌∙◌, subst, sym, Err}
+use Rattle.std.proofs.Common.{arith, refl}
 use Rattle.std.proofs.lemmas.Result.{err_from_is_err_and}
-use Rattle.numbering.specs.Parts.{Choice}
 use Rattle.numbering.proofs.Calls.{start_low}
 use Rattle.numbering.proofs.Choosing.{choice_up, choice_root, choice_ended, choice_down}
 use Rattle.numbering.proofs.choice.choose.Goals as goal

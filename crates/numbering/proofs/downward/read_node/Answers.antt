@@ -1,4 +1,3 @@
-use Rattle.std.proofs.Common.{refl}
 use Rattle.numbering.proofs.DownReads.{asked, read_none, read_high, read_good}
 use Rattle.numbering.proofs.downward.read_node.Goals as goal
 

@@ -1,4 +1,4 @@
-use Rattle.std.proofs.Common.{arith, refl, ap, ◌<◌, length}
+use Rattle.std.proofs.Common.{arith, refl}
 use Rattle.numbering.proofs.Keeping.{plausible_at, end_at}
 use Rattle.numbering.proofs.Calls.{kid_low}
 use Rattle.numbering.proofs.Children.{child_low, gathering_none, gathering_turn, counts_done, ranks_done}

@@ -32,4 +32,4 @@ loop-j-preserved c =
 pub returns : goal.returns
 returns c =
     let wide = c.width-own.ensures.is ∙ ap (λ k. (grammar_in c.args.call.now).settings k) c.left.ensures.is in
-    instance c.requires wide refl (omega arith) c.told-holders refl refl c.hold_own.ensures c.loop-j.invariant c.kids-kind-items.ensures.are (omega arith)
+    instance c.requires wide refl (omega arith) c.told-holders (omega arith) refl c.hold_own.ensures c.loop-j.invariant c.kids-kind-items.ensures.are (omega arith)

@@ -1,5 +1,4 @@
 -- Each exit has its own law.
-use Rattle.std.proofs.Common.{refl}
 use Rattle.std.proofs.lemmas.Result.{err_from_is_err_and}
 use Rattle.numbering.proofs.Filling.{filled}
 use Rattle.numbering.proofs.Settled.{unrefused, settled_big, settled_bad, settled_walkable, settled_well}
