@@ -1,30 +1,29 @@
 -- All reads in their order: upward, the root, downward.
 use mathlib.Core.Path.{◌≡◌, refl, sym, ap, subst, ◌∙◌}
 use mathlib.Core.Logic.{inl}
-use mathlib.Core.Bool.{Bool, true, false}
 use mathlib.Core.List.{List, [], ◌∷◌}
 use Prim.Native.Nat.{ℕ, suc, ◌+◌, ◌-◌, ◌≤◌, ◌<◌}
 use native.Mathlib.Omega.{arith}
-use lib.ListN.{length, get_or}
+use lib.ListN.{length, get_or, set}
 use lib.Seq.{get_or-set_same}
+use Rattle.std.specs.Prelude.{Result, Ok, Err}
+use Rattle.refusals.specs.declared.Refused.{Refused}
+use Rattle.refusals.specs.declared.Refusal.TheVariants.{BadTables}
 use Rattle.chains.specs.Limits.{max_nodes}
 use Rattle.chains.specs.Grammar.{Grammar}
 use Rattle.chains.specs.Tree.{Bush, nil, grow, size, Kinded, Sub}
 use Rattle.chains.proofs.Nodes.{sub_in}
-use Rattle.book.specs.Format.{grammar, kinds, start}
-use Rattle.bookcheck.specs.Accepted.{Accepted}
-use Rattle.numbering.specs.Walk.{Tables, tables, ranks, started}
-use Rattle.numbering.specs.Promise.{TreeOf, BadRoot}
-use Rattle.numbering.specs.KeptRanks.{plausible_ranks, feasible_ranks, KeptFeasible}
-use Rattle.numbering.specs.Parts.{Ended, Ranked, NoBadUp, UpIs, UpReads, RightRank, NoBadDown, DownIs, DownReads, Fails, upward, root, downward, ChoiceIs, Choice}
-use Rattle.numbering.specs.declared.upward.Reads.{Reads}
-use Rattle.numbering.specs.declared.upward.Reads.TheVariants.{All, Bad}
-use Rattle.numbering.proofs.Keeping.{feasible_long}
+use Rattle.book.specs.Reading.{told}
+use Rattle.bookcheck.proofs.Accepted.{told_start}
+use Rattle.numbering.specs.Walk.{Tables, ranks, started}
+use Rattle.numbering.specs.Promise.{BadRoot}
+use Rattle.numbering.specs.Nodes.{plausible_ranks, feasible_ranks, subtree_ends, down_entries}
+use Rattle.numbering.specs.Parts.{grammar_in, tables_in, TreeIn, Ended, Ranked, NoBadUp, UpReads, RightRank, NoBadDown, DownIs, DownReads, Fails, upward, root, downward, ChoiceIs, Choice}
+use Rattle.numbering.specs.declared.call.Call.{Call}
+use Rattle.numbering.specs.declared.nodes.Node.{Node}
+use Rattle.numbering.proofs.Keeping.{unread, plausible_at, feasible_set, feasible_long, upward_set}
+use Rattle.numbering.proofs.Calls.{accepted_in}
 use Rattle.numbering.proofs.Journey.{root_visited}
-
--- the start has its count
-pub start_inside : {b : List ℕ} (d : List ℕ) {k : ℕ} → Accepted b → kinds b ≤ length d → k ≡ start b → k < length d
-start_inside d a h e = omega (arith, a.lawful.start_in)
 
 -- the root's rank
 started_rank : (G : Grammar) (T : Tables) (f : Bush) (plausible : List ℕ) → Kinded G f (G.start ∷ []) → Ranked G T f 0 0 plausible → started G T f 0 ≡ get_or plausible 0 0
@@ -69,73 +68,72 @@ module _ (G : Grammar) (T : Tables) (f : Bush) where
       go (downward m q ds z bad) = low m q ds z (inside m q ds z) bad
 
 -- ── the exits ──
-module _ {b l c u kept ends : List ℕ} (d w : List ℕ) {r : Reads} (up : UpReads b l c u kept ends r) where
-  pub choice_up : {entries : List ℕ} {i : ℕ} → length entries ≡ max_nodes → r ≡ Bad i → Choice b l c d u w kept ends entries (Bad i)
-  choice_up {i = i} le e = record {
-    kept_long = up.kept_long;
-    ends_long = up.ends_long;
-    entries_long = le;
-    case = λ t.
-        let T = tables c d u w in
-        let ((q, ds, s, bad), none) = subst (UpIs (grammar b) T t.tree (plausible_ranks kept) ends) e (up.case t d w) in
-        (size t.tree - i, upward i q ds s bad, before_upward (grammar b) T t.tree i (inside (grammar b) T t.tree i q ds s) none);
-  }
+pub choice_up : {x : Call} {nodes : List Node} {z : Refused} → UpReads x nodes (Err z) → Choice x nodes (Err z)
+choice_up {x} {z = z} up = record {
+  case = λ t.
+      let (is, (q, ds, s, bad), none) = up.case t in
+      let G = grammar_in x in
+      let T = tables_in x in
+      (is, size t.tree - z.place, upward z.place q ds s bad, before_upward G T t.tree z.place (inside G T t.tree z.place q ds s) none);
+}
 
-  module _ (e : r ≡ All) where
-    good_up : (t : TreeOf (grammar b) l) → NoBadUp (grammar b) (tables c d u w) t.tree 0 × Ranked (grammar b) (tables c d u w) t.tree 0 0 (plausible_ranks kept) × Ended t.tree 0 0 ends
-    good_up t = subst (UpIs (grammar b) (tables c d u w) t.tree (plausible_ranks kept) ends) e (up.case t d w)
+module _ {x : Call} {nodes : List Node} (up : UpReads x nodes (Ok (tt {0}))) (long : length nodes ≡ max_nodes) where
+  root_rank : (t : TreeIn x) → started (grammar_in x) (tables_in x) t.tree 0 ≡ get_or (plausible_ranks nodes) 0 0
+  root_rank t = started_rank (grammar_in x) (tables_in x) t.tree (plausible_ranks nodes) t.kinded (up.case t).1
 
-    pub choice_ended : (t : TreeOf (grammar b) l) → Ended t.tree 0 0 ends
-    choice_ended t = (subst (UpIs (grammar b) (tables c [] u []) t.tree (plausible_ranks kept) ends) e (up.case t [] [])).2
+  -- the root's rank, held against its count
+  module _ {kind rank : ℕ} (ek : kind ≡ told x.book.now 3) (er : rank ≡ (get_or nodes 0 unread).plausible.0) where
+    count_is : get_or x.tables.feasible_counts.now kind 0 ≡ get_or x.tables.feasible_counts.now (grammar_in x).start 0
+    count_is = ap (λ k. get_or x.tables.feasible_counts.now k 0) (ek ∙ told_start (accepted_in x))
 
-    root_rank : (t : TreeOf (grammar b) l) → started (grammar b) (tables c d u w) t.tree 0 ≡ get_or (plausible_ranks kept) 0 0
-    root_rank t = started_rank (grammar b) (tables c d u w) t.tree (plausible_ranks kept) t.kinded (good_up t).1
+    rank_is : (t : TreeIn x) → rank ≡ started (grammar_in x) (tables_in x) t.tree 0
+    rank_is t = er ∙ sym (plausible_at nodes 0) ∙ sym (root_rank t)
 
-    -- the root's rank, held against its count
-    module _ {kind rank : ℕ} (ek : kind ≡ start b) (er : rank ≡ get_or (plausible_ranks kept) 0 0) {kept' : List ℕ} {k : Bool} (root_kept : KeptFeasible kept 0 rank (get_or d kind 0) kept' k) where
-      pub choice_root : {entries : List ℕ} → length entries ≡ max_nodes → k ≡ false → Choice b l c d u w kept' ends entries (Bad 0)
-      choice_root le ef = record {
-        kept_long = root_kept.long ∙ up.kept_long;
-        ends_long = up.ends_long;
-        entries_long = le;
-        case = λ t.
-            let T = tables c d u w in
-            let high = (root_kept.own.high ef).0 in
-            let bad : BadRoot (grammar b) T t.tree = omega (arith, ap (λ k. get_or d k 0) ek, root_rank t) in
-            (size t.tree + 1, root bad, before_root (grammar b) T t.tree (good_up t).0);
-      }
+    pub choice_root : get_or x.tables.feasible_counts.now kind 0 ≤ rank → (z : Refused) → z ≡ record { refusal = BadTables; place = 0 } → Choice x nodes (Err z)
+    choice_root high z ez =
+        let at_root : Choice x nodes (Err (record { refusal = BadTables; place = 0 })) = record {
+          case = λ t.
+              let bad : BadRoot (grammar_in x) (tables_in x) t.tree = omega (arith, count_is, rank_is t) in
+              (refl, size t.tree + 1, root bad, before_root (grammar_in x) (tables_in x) t.tree (up.case t).0);
+        } in
+        subst (λ y. Choice x nodes (Err y)) (sym ez) at_root
 
-      module _ (et : k ≡ true) {kept'' entries : List ℕ} {o : Reads} (down : DownReads b l c d w ends kept' kept'' entries o) where
-        fine : (t : TreeOf (grammar b) l) → BadRoot (grammar b) (tables c d u w) t.tree → ⊥
-        fine t h = omega (arith, (root_kept.own.low et).0, ap (λ k. get_or d k 0) ek, root_rank t)
+    module _ (low : rank < get_or x.tables.feasible_counts.now kind 0) (n : Node) (ef : n.feasible.0 ≡ rank) (ep : n.plausible.0 ≡ (get_or nodes 0 unread).plausible.0)
+        (ee : n.end ≡ (get_or nodes 0 unread).end) where
+      pub choice_ended : (t : TreeIn x) → Ended t.tree 0 0 (subtree_ends (set nodes 0 n))
+      choice_ended t = subst (Ended t.tree 0 0) (sym (upward_set nodes 0 n ep ee).ends) (up.case t).2
 
-        down_is : (t : TreeOf (grammar b) l) → DownIs (grammar b) (tables c d u w) t.tree (feasible_ranks kept'') entries o
-        down_is t =
-            let T = tables c d u w in
-            let (none, ranked, ended) = good_up t in
-            let first : RightRank (grammar b) T t.tree (feasible_ranks kept') 0
-            = ap (λ (s : List ℕ). get_or s 0 0) (root_kept.own.low et).1
-            ∙ get_or-set_same (feasible_ranks kept) 0 rank 0 (omega (arith, feasible_long kept up.kept_long))
-            ∙ er ∙ sym (root_rank t) ∙ sym (root_visited (grammar b) T t.tree t.kinded).0 in
-            down.case t u ended (subst (λ (s : List ℕ). Ranked (grammar b) T t.tree 0 0 s) (sym root_kept.others) ranked) first
+      module _ {nodes' : List Node} {r : Result (Unit {0}) Refused} (down : DownReads x (set nodes 0 n) nodes' r) where
+        fine : (t : TreeIn x) → BadRoot (grammar_in x) (tables_in x) t.tree → ⊥
+        fine t h = omega (arith, count_is, rank_is t)
 
-        choice_of : (o' : Reads) → o ≡ o' → (t : TreeOf (grammar b) l) → ChoiceIs (grammar b) (tables c d u w) t.tree (plausible_ranks kept'') ends (feasible_ranks kept'') entries o'
-        choice_of All eo t =
-            let T = tables c d u w in
-            let (none, ranked, ended) = good_up t in
-            let (bad, right, entered) = subst (DownIs (grammar b) T t.tree (feasible_ranks kept'') entries) eo (down_is t) in
-            let still = subst (λ (s : List ℕ). Ranked (grammar b) T t.tree 0 0 s) (sym (down.only.plausible ∙ root_kept.others)) ranked in
-            (none_fails (grammar b) T t.tree none (fine t) bad, record { ranked = still; ended = ended; right = right; entered = entered })
-        choice_of (Bad i) eo t =
-            let T = tables c d u w in
-            let (none, ranked, ended) = good_up t in
-            let ((q, ds, z, bad), first) = subst (DownIs (grammar b) T t.tree (feasible_ranks kept'') entries) eo (down_is t) in
-            (size t.tree + 2 + i, downward i q ds z bad, before_downward (grammar b) T t.tree i none (fine t) first)
+        ranked : (t : TreeIn x) → Ranked (grammar_in x) (tables_in x) t.tree 0 0 (plausible_ranks (set nodes 0 n))
+        ranked t = subst (Ranked (grammar_in x) (tables_in x) t.tree 0 0) (sym (upward_set nodes 0 n ep ee).plausible) (up.case t).1
 
-        pub choice_down : Choice b l c d u w kept'' ends entries o
-        choice_down = record {
-          kept_long = down.only.long ∙ root_kept.long ∙ up.kept_long;
-          ends_long = up.ends_long;
-          entries_long = down.entries_long;
-          case = choice_of o refl;
-        }
+        first : (t : TreeIn x) → RightRank (grammar_in x) (tables_in x) t.tree (feasible_ranks (set nodes 0 n)) 0
+        first t =
+            ap (λ (s : List ℕ). get_or s 0 0) (feasible_set nodes 0 n)
+            ∙ get_or-set_same (feasible_ranks nodes) 0 n.feasible.0 0 (omega (arith, feasible_long nodes))
+            ∙ ef ∙ rank_is t ∙ sym (root_visited (grammar_in x) (tables_in x) t.tree t.kinded).0
+
+        choice_of : (r' : Result (Unit {0}) Refused) → r ≡ r' → (t : TreeIn x) → ChoiceIs x t.tree nodes' r'
+        choice_of (Ok u) e t =
+            let G = grammar_in x in
+            let T = tables_in x in
+            let (bad, right, entered) = subst (DownIs G T t.tree (feasible_ranks nodes') (down_entries nodes')) e (down.case t (choice_ended t) (ranked t) (first t)) in (
+              none_fails G T t.tree (up.case t).0 (fine t) bad,
+              record {
+                ranked = subst (Ranked G T t.tree 0 0) (sym down.upward.plausible) (ranked t);
+                ended = subst (Ended t.tree 0 0) (sym down.upward.ends) (choice_ended t);
+                right = right;
+                entered = entered;
+              },
+            )
+        choice_of (Err z) e t =
+            let G = grammar_in x in
+            let T = tables_in x in
+            let (is, (q, ds, s, bad), below) = subst (DownIs G T t.tree (feasible_ranks nodes') (down_entries nodes')) e (down.case t (choice_ended t) (ranked t) (first t)) in
+            (is, size t.tree + 2 + z.place, downward z.place q ds s bad, before_downward G T t.tree z.place (up.case t).0 (fine t) below)
+
+        pub choice_down : Choice x nodes' r
+        choice_down = record { case = choice_of r refl }

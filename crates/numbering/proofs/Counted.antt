@@ -1,55 +1,36 @@
 -- The counts of the sets against their limit.
-use mathlib.Core.Path.{◌≡◌}
-use mathlib.Core.Logic.{◌⊎◌, inl, inr}
-use mathlib.Core.Bool.{Bool, true, false}
-use mathlib.Core.List.{List, []}
-use Prim.Native.Nat.{ℕ, ◌+◌, ◌≤◌, ◌<◌}
-use native.Mathlib.Decide.{dec_lt}
-use native.Mathlib.Omega.{arith}
-use lib.ListN.{get_or}
+use Rattle.std.proofs.Common.{◌≡◌, ◌⊎◌, ◌↔◌, inl, inr, Bool, true, false, List, ℕ, ◌<◌, ◌≤◌, length, get_or, take, arith}
+use Rattle.std.proofs.Math.Seq.{length-take-le, get_or-take}
 use Rattle.chains.specs.Limits.{max_members}
-use Rattle.book.specs.Format.{kinds, grammar}
-use Rattle.book.specs.Reading.{told}
-use Rattle.bookcheck.specs.Search.{Tells}
-use Rattle.bookcheck.specs.Accepted.{Accepted}
-use Rattle.bookcheck.proofs.Accepted.{told_kinds}
-use Rattle.bookcheck.proofs.Answers.{tells_yes, tells_no}
-use Rattle.numbering.specs.Walk.{tables}
 use Rattle.numbering.specs.Promise.{BigCount}
+use Rattle.numbering.specs.Parts.{grammar_in, tables_in}
+use Rattle.numbering.specs.declared.call.Call.{Call}
+use Rattle.numbering.proofs.Calls.{kinds_is}
+use Rattle.book.specs.Reading.{told}
 
--- one of the first n counts is over the limit
-abbrev Over : List ℕ → ℕ → Type 0
-Over counts n = (k : ℕ) × (k < n) × (max_members < get_or counts k 0)
+-- one of the counts is over the limit
+abbrev Over : List ℕ → Type 0
+Over counts = (k : ℕ) × (k < length counts) × (max_members < get_or counts k 0)
 
--- none of the first k is
-pub record Low (counts : List ℕ) (k : ℕ) : Type 0 where
-  pub each : (i : ℕ) → i < k → get_or counts i 0 ≤ max_members
+-- that of a kind is one of the first n
+module _ (n : ℕ) (c : List ℕ) (long : n ≤ length c) where
+  into : (k : ℕ) → k < n → max_members < get_or c k 0 → Over (take n c)
+  into k h m = (k, omega (arith, length-take-le n c long), omega (arith, get_or-take n c k 0 h))
 
-pub low_none : {counts : List ℕ} → Low counts 0
-low_none = record { each = λ i h. absurd (omega arith) }
+  out : Over (take n c) → (k : ℕ) × (k < n) × (max_members < get_or c k 0)
+  out (k, h, m) = let h' : k < n = omega (arith, length-take-le n c long) in (k, h', omega (arith, get_or-take n c k 0 h'))
 
-module _ {counts : List ℕ} {k : ℕ} (l : Low counts k) where
-  pub low_next : get_or counts k 0 ≤ max_members → Low counts (k + 1)
-  low_next h = record { each = λ i z. go i z (dec_lt i k) }
-    where
-      go : (i : ℕ) → i < k + 1 → Dec (i < k) → get_or counts i 0 ≤ max_members
-      go i z (yes x) = l.each i x
-      go i z (no x) = let e : i ≡ k = omega arith in rw e h
+-- the counts of the plausible sets have been looked at first
+pub too_many_else : (x : Call) {n : ℕ} {r s : Bool} → n ≡ told x.book.now 1 → ((r ≡ true) ↔ Over (take n x.tables.plausible_counts.now)) → r ≡ false
+    → ((s ≡ true) ↔ Over (take n x.tables.feasible_counts.now)) → (s ≡ true) ↔ BigCount (grammar_in x) (tables_in x)
+too_many_else x {n} {r} {s} e first none second = (
+  λ t. let (k, h, m) = out n x.tables.feasible_counts.now (omega (arith, is, x.feasible_counted)) (second.0 t) in (k, omega (arith, is), inr m),
+  λ (k, h, m). go k (omega (arith, is)) m,
+)
+  where
+    is : n ≡ (grammar_in x).kinds
+    is = kinds_is x e
 
-  pub low_all : {n : ℕ} → n ≤ k → Tells (Over counts n) false
-  low_all h = tells_no (λ (i, z, x). omega (arith, l.each i (omega arith)))
-
--- ── both slices ──
-module _ {b : List ℕ} (a : Accepted b) {n : ℕ} (e : n ≡ told b 1) (c d : List ℕ) {r : Bool} (first : Tells (Over c n) r) where
-  pub many_plausible : r ≡ true → Tells (BigCount (grammar b) (tables c d [] [])) true
-  many_plausible t = let (k, h, x) = first.holds t in tells_yes (k, omega (arith, told_kinds a), inl x)
-
-  pub many_feasible : {s : Bool} → r ≡ false → Tells (Over d n) s → Tells (BigCount (grammar b) (tables c d [] [])) s
-  many_feasible {s} f second = record {
-    holds = λ t. let (k, h, x) = second.holds t in (k, omega (arith, told_kinds a), inr x);
-    fails = λ g (k, h, x). go g k h x;
-  }
-    where
-      go : s ≡ false → (k : ℕ) → k < kinds b → (max_members < get_or c k 0) ⊎ (max_members < get_or d k 0) → ⊥
-      go g k h (inl x) = first.fails f (k, omega (arith, told_kinds a), x)
-      go g k h (inr x) = second.fails g (k, omega (arith, told_kinds a), x)
+    go : (k : ℕ) → k < n → (max_members < get_or x.tables.plausible_counts.now k 0) ⊎ (max_members < get_or x.tables.feasible_counts.now k 0) → s ≡ true
+    go k h (inl m) = let t = first.1 (into n x.tables.plausible_counts.now (omega (arith, is, x.plausible_counted)) k h m) in cc
+    go k h (inr m) = second.1 (into n x.tables.feasible_counts.now (omega (arith, is, x.feasible_counted)) k h m)

@@ -10,23 +10,15 @@ use Rattle.lists.specs.Refusals.{accepted, refused, Sooner}
 use Rattle.chains.specs.Tree.{size}
 use Rattle.book.specs.Format.{grammar}
 use Rattle.sheet.specs.Reading.{all_settings}
-use Rattle.sheet.specs.Trees.{Fits}
 use Rattle.sheet.proofs.Accepted.{accepted_sheet}
 use Rattle.admission.specs.Refusals as admission
 use Rattle.admission.proofs.Turns.{row_number}
 use Rattle.numbering.specs.Walk.{Tables}
 use Rattle.numbering.specs.Promise.{Lent, TreeOf, BigCount, Applies, big_count, turn}
-use Rattle.numbering.specs.Parts.{Sheeted, Fails}
+use Rattle.numbering.specs.Parts.{Fails}
 use Rattle.numbering.specs.Admitting.{measures, Clear, Refuses}
 use Rattle.numbering.proofs.Trees.{one_tree, tree_size}
 use Rattle.numbering.proofs.Turns.{Row, earlier, bigs, reads, row, earlier_applies, read_applies, among_earlier, after_earlier, among_reads, one_place}
-
--- the tree of a sheet that fits
-pub tree_of : {b l : List ℕ} → Fits b l → TreeOf (grammar b) l
-tree_of f = record { tree = f.tree; kinded = f.drawn.kinded; reads = f.drawn.bytes }
-
-pub sheeted : {b l : List ℕ} → Fits b l → Sheeted b l
-sheeted f = record { tree_of = tree_of f; some = f.some; few = f.few }
 
 -- ── the admission's refusals ──
 pub refuses_early : {b l : List ℕ} {T : Tables} {m : Lent} {n p : ℕ} → admission.AdmissionDue b l (measures T m) (refused n p) → Refuses b l T m n p

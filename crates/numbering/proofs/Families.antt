@@ -1,27 +1,33 @@
 -- The loop that numbers the settings of a node's children, one child after another.
-use mathlib.Core.Path.{◌≡◌, refl, sym, ap, subst, ◌∙◌}
+use mathlib.Core.Path.{◌≡◌, refl, sym, ap, ap₂, subst, ◌∙◌}
 use mathlib.Core.List.{List, [], ◌∷◌, ◌++◌, append_assoc, append-nil}
 use Prim.Native.Nat.{ℕ, suc, ◌+◌, ◌*◌, ◌≤◌, ◌<◌}
 use native.Mathlib.Nat.{add-zero}
 use native.Mathlib.Decide.{dec_lt, ℕ_discrete}
 use native.Mathlib.Numerals.{add-one}
 use native.Mathlib.Omega.{arith}
+use borrow.Rule.Slice.PartMut.{put_mid, same_len_mid}
 use lib.ListN.{length, get_or, take, drop, take-append-drop}
 use lib.Seq.{take_all, take-suc, take_at, drop_at, drop-cons, length-take-le}
+use Rattle.std.proofs.lemmas.List.{drop-drop}
+use Rattle.std.proofs.lemmas.Slice.{drop-put_mid}
 use Rattle.lists.specs.Part.{part, place}
-use Rattle.lists.proofs.Parts.{place_this, place_before, place_after}
+use Rattle.lists.proofs.Parts.{length_part, place_this, place_before, place_after}
 use Rattle.chains.specs.Limits.{max_settings, max_nodes}
 use Rattle.chains.specs.Grammar.{Grammar}
-use Rattle.book.specs.Format.{grammar}
-use Rattle.book.specs.Reading.{kid_at, settings_of}
-use Rattle.bookcheck.proofs.Accepted.{settings_read}
 use Rattle.sheet.specs.Reading.{all_settings}
-use Rattle.numbering.specs.Walk.{Tables, tables, Held, held, numbered, unused, slot_labels, kid_labels}
-use Rattle.numbering.specs.Parts.{child_at, Children}
-use Rattle.numbering.specs.Giving.{labels_known, Firsts, Holding, Slot, kinds_width, Written, Kinds, Family}
+use Rattle.numbering.specs.Walk.{Tables, Held, held, numbered, unused, slot_labels, kid_labels}
+use Rattle.numbering.specs.Nodes.{subtree_ends}
+use Rattle.numbering.specs.Parts.{grammar_in, tables_in, child_at}
+use Rattle.numbering.specs.Giving.{Holding, Slot, kinds_width, Written, Puts, Ready}
+use Rattle.numbering.specs.declared.call.Call.{Call}
+use Rattle.numbering.specs.declared.nodes.Node.{Node}
+use Rattle.numbering.specs.declared.numbers.Holder.{Holder}
+use Rattle.numbering.proofs.Keeping.{unread, first_at, end_at}
+use Rattle.numbering.proofs.Calls.{few_kids, known_in}
+use Rattle.numbering.proofs.Children.{child_low, child_first, child_next}
 use Rattle.numbering.proofs.Labelled.{numbered_long, holding, numbered_append, unused_append, slot_labels_long, kid_labels_long}
 use Rattle.numbering.proofs.Slots.{holding_append}
-use Rattle.numbering.proofs.Children.{Opened, kid_is}
 use Rattle.numbering.proofs.Trees.{settings_before, settings_inside}
 
 -- ── labels of some children, then of others ──
@@ -101,172 +107,156 @@ written_still G l g g' F m this others n k y = go (ℕ_discrete n m)
     go (no q) = others n (F n) k q y
 
 -- ── the loop ──
-pub record Naming (b l w : List ℕ) (e p at kids : ℕ) (ends firsts : List ℕ) (i s first : ℕ) (stamps₀ numbers₀ g₀ stamps numbers g : List ℕ) (next child j : ℕ) : Type 0 where
-  pub opened : Opened b p at kids
-  pub children : Children ends i kids
-  pub kinds_are : Kinds (grammar b) l ends i p
-  pub places_are : Firsts (grammar b) l firsts
-  pub within : j ≤ kids
-  pub few : next ≤ first + max_settings * j
-  pub low : first ≤ max_settings * max_nodes
-  pub stands : child ≡ child_at ends i j
-  pub room : all_settings (grammar b) l ≤ length g₀
-  pub long : length g ≡ length g₀
-  pub stamps_long : length stamps ≡ labels_known
-  pub numbers_long : length numbers ≡ labels_known
-  pub first_stamps : length stamps₀ ≡ labels_known
-  pub first_numbers : length numbers₀ ≡ labels_known
-  pub beyond : drop (all_settings (grammar b) l) g ≡ drop (all_settings (grammar b) l) g₀
-  pub given : (hs : List Held) (c d u : List ℕ) → Holding hs s stamps₀ numbers₀ →
-      let T = tables c d u w in
-      let xs = kid_labels (grammar b) T e 1 (take j ((grammar b).kids p)) in
-      Holding (hs ++ held xs (numbered hs first xs)) s stamps numbers × (next ≡ unused hs first xs)
-      × ((F : ℕ → List ℕ)
-      → ((k : ℕ) → k < length ((grammar b).kids p) → F (child_at ends i k)
-      ≡ part (kinds_width (grammar b) (take k ((grammar b).kids p))) ((grammar b).settings (get_or ((grammar b).kids p) k 0)) (numbered hs first (kid_labels (grammar b) T e 1 ((grammar b).kids p))))
-      → ((m : ℕ) → m < length l → Written (grammar b) l g₀ m (F m) → Written (grammar b) l g m (F m))
-      × ((k : ℕ) → k < j → Written (grammar b) l g (child_at ends i k) (F (child_at ends i k))))
+-- what a slot's settings have become is put back among all
+pub put_back : (at n : ℕ) (g ys : List ℕ) → n ≡ length ys → put_mid at n g ys ≡ place at ys g
+put_back at n g ys e =
+    ap (λ t. take at g ++ (ys ++ t)) (drop-drop n at g ∙ ap (λ m. drop (at + m) g) e) ∙ sym (append_assoc (take at g) ys (drop (at + length ys) g))
 
-pub naming_none : {b l w : List ℕ} {e p at kids : ℕ} {ends firsts : List ℕ} {i s first : ℕ} {stamps numbers g : List ℕ} → Opened b p at kids
-    → Children ends i (length ((grammar b).kids p)) → Kinds (grammar b) l ends i p → Firsts (grammar b) l firsts → first ≤ max_settings * max_nodes
-    → all_settings (grammar b) l ≤ length g → length stamps ≡ labels_known → length numbers ≡ labels_known
-    → Naming b l w e p at kids ends firsts i s first stamps numbers g stamps numbers g first (i + 1) 0
-unfolding child_at kid_labels numbered unused
-naming_none {ends = ends} {i = i} o c k f h r ls ln = record {
-  opened = o;
-  children = subst (Children ends i) (sym o.count) c;
-  kinds_are = k;
-  places_are = f;
-  within = omega arith;
+pub record Naming (x : Call) (nodes : List Node) (i s e first : ℕ) (holders₀ : List Holder) (g₀ : List ℕ) (holders : List Holder) (g : List ℕ) (next child j : ℕ) : Type 0 where
+  pub few : next ≤ first + max_settings * j
+  pub stands : child ≡ child_at (subtree_ends nodes) i j
+  pub kept : length holders ≡ length holders₀
+  pub long : length g ≡ length g₀
+  pub beyond : drop (all_settings (grammar_in x) x.sheet.now) g ≡ drop (all_settings (grammar_in x) x.sheet.now) g₀
+  pub given : (hs : List Held) → Holding hs s holders₀ →
+      let p = get_or x.sheet.now i 0 in
+      let xs = kid_labels (grammar_in x) (tables_in x) e 1 (take j ((grammar_in x).kids p)) in
+      Holding (hs ++ held xs (numbered hs first xs)) s holders × (next ≡ unused hs first xs)
+      × Puts (grammar_in x) x.sheet.now (subtree_ends nodes) i p (numbered hs first (kid_labels (grammar_in x) (tables_in x) e 1 ((grammar_in x).kids p))) j g₀ g
+
+pub naming_none : {x : Call} {nodes : List Node} {i s e first : ℕ} {holders : List Holder} {g : List ℕ} → Naming x nodes i s e first holders g holders g first (i + 1) 0
+unfolding kid_labels numbered unused
+naming_none {nodes = nodes} {i} = record {
   few = omega arith;
-  low = h;
-  stands = add-one i;
-  room = r;
+  stands = child_first (subtree_ends nodes) i;
+  kept = refl;
   long = refl;
-  stamps_long = ls;
-  numbers_long = ln;
-  first_stamps = ls;
-  first_numbers = ln;
   beyond = refl;
-  given = λ hs c d u q. (rw (append-nil hs) q, refl, λ F f. (λ m l z. z, λ m l. absurd (omega arith)));
+  given = λ hs q. (rw (append-nil hs) q, refl, λ F f. (λ m l z. z, λ m l. absurd (omega arith)));
 }
 
-module _ {b l w : List ℕ} {e p at kids : ℕ} {ends firsts : List ℕ} {i s first : ℕ} {stamps₀ numbers₀ g₀ stamps numbers g : List ℕ} {next child j : ℕ}
-    (n : Naming b l w e p at kids ends firsts i s first stamps₀ numbers₀ g₀ stamps numbers g next child j) where
-  module _ (more : j < kids) where
-    here : j < length ((grammar b).kids p)
-    here = omega (arith, n.opened.count)
+module _ {x : Call} {nodes : List Node} {i s e first : ℕ} {holders₀ : List Holder} {g₀ : List ℕ} {holders : List Holder} {g : List ℕ} {next child j : ℕ}
+    (n : Naming x nodes i s e first holders₀ g₀ holders g next child j) (r : Ready x nodes i first g₀)
+    {ks : List ℕ} (ek : ks ≡ (grammar_in x).kids (get_or x.sheet.now i 0)) where
+  module _ (more : j < length ks) where
+    here : j < length ((grammar_in x).kids (get_or x.sheet.now i 0))
+    here = omega (arith, ap length ek)
 
     pub naming_inside : child < max_nodes
-    naming_inside = omega (arith, n.stands, n.children.each j more)
+    naming_inside = child_low r.children here n.stands
 
-    there : child < length l
-    there = omega (arith, n.stands, n.kinds_are.there j here)
+    there : child < length x.sheet.now
+    there = omega (arith, n.stands, r.kinds_are.there j here)
 
-    -- the child's width, and where its settings stand
-    pub naming_width : {x width : ℕ} → x ≡ kid_at b at j → width ≡ settings_of b x → width ≡ (grammar b).settings (get_or ((grammar b).kids p) j 0)
-    naming_width {x} ex ew = ew ∙ settings_read n.opened.accepted x ∙ ap (λ y. (grammar b).settings y) (kid_is n.opened j more ex)
+    placed : (get_or nodes child unread).first_setting ≡ all_settings (grammar_in x) (take child x.sheet.now)
+    placed = sym (first_at nodes child) ∙ r.places_are.each child there
 
-    same_kind : (grammar b).settings ((grammar b).left (get_or l child 0)) ≡ (grammar b).settings (get_or ((grammar b).kids p) j 0)
-    same_kind = ap (λ y. (grammar b).settings y) (ap (λ y. (grammar b).left (get_or l y 0)) n.stands ∙ n.kinds_are.kind j here)
+    same_kind : (grammar_in x).settings ((grammar_in x).left (get_or x.sheet.now child 0)) ≡ (grammar_in x).settings (get_or ((grammar_in x).kids (get_or x.sheet.now i 0)) j 0)
+    same_kind = ap (λ y. (grammar_in x).settings y) (ap (λ y. (grammar_in x).left (get_or x.sheet.now y 0)) n.stands ∙ r.kinds_are.kind j here)
 
-    module _ {x width place_of : ℕ} (ex : x ≡ kid_at b at j) (ew : width ≡ settings_of b x) (ep : place_of ≡ get_or firsts child 0) where
-      placed : place_of ≡ all_settings (grammar b) (take child l)
-      placed = ep ∙ n.places_are.each child there
+    -- the child's width
+    module _ {width : ℕ} (ew : width ≡ (grammar_in x).settings (get_or ks j 0)) (lw : width ≤ max_settings) where
+      width_is : width ≡ (grammar_in x).settings (get_or ((grammar_in x).kids (get_or x.sheet.now i 0)) j 0)
+      width_is = ew ∙ ap (λ t. (grammar_in x).settings (get_or t j 0)) ek
 
-      pub naming_narrow : width ≤ max_settings
-      naming_narrow = omega (arith, naming_width ex ew, n.opened.accepted.lawful.few_settings (get_or ((grammar b).kids p) j 0) (n.opened.accepted.lawful.kids_in p j n.opened.known here))
-
-      pub naming_fits : place_of + width ≤ length g
-      naming_fits = omega (arith, placed, naming_width ex ew, same_kind, settings_inside (grammar b) l child there, n.room, n.long)
+      pub naming_fits : (get_or nodes child unread).first_setting + width ≤ length g
+      naming_fits = omega (arith, placed, width_is, same_kind, settings_inside (grammar_in x) x.sheet.now child there, r.room, n.long)
 
       pub naming_low : next + width < 65536
-      naming_low = omega (arith, naming_narrow, n.few, n.low, n.within, n.opened.few)
+      naming_low = omega (arith, n.few, r.low, few_kids x (known_in x i r.there), ap length ek)
 
-      pub naming_turn : {slot : ℕ} {stamps' numbers' g' : List ℕ} {next' child' : ℕ} → slot ≡ j + 1
-          → Slot w e slot width place_of s next stamps numbers g stamps' numbers' g' next' → child' ≡ get_or ends child 0
-          → Naming b l w e p at kids ends firsts i s first stamps₀ numbers₀ g₀ stamps' numbers' g' next' child' (j + 1)
-      unfolding child_at
-      naming_turn {slot} {stamps'} {numbers'} {g'} {next'} {child'} es o ec = record {
-        opened = n.opened;
-        children = n.children;
-        kinds_are = n.kinds_are;
-        places_are = n.places_are;
-        within = omega arith;
-        few = omega (arith, o.few, naming_narrow, n.few);
-        low = n.low;
-        stands = ec ∙ ap (λ y. get_or ends y 0) n.stands ∙ ap (child_at ends i) (sym (add-one j));
-        room = n.room;
-        long = o.long ∙ n.long;
-        stamps_long = o.stamps_kept ∙ n.stamps_long;
-        numbers_long = o.numbers_kept ∙ n.numbers_long;
-        first_stamps = n.first_stamps;
-        first_numbers = n.first_numbers;
-        beyond = o.beyond (all_settings (grammar b) l) (omega (arith, placed, naming_width ex ew, same_kind, settings_inside (grammar b) l child there)) ∙ n.beyond;
-        given = step;
-      }
-        where
-          written_kids : (F : ℕ → List ℕ) → Written (grammar b) l g' child (F child)
-              → ((m : ℕ) (us : List ℕ) → m < length l → (m ≡ child → ⊥) → Written (grammar b) l g m us → Written (grammar b) l g' m us)
-              → ((k : ℕ) → k < j → Written (grammar b) l g (child_at ends i k) (F (child_at ends i k)))
-              → (k : ℕ) → k < j + 1 → Dec (k ≡ j) → Written (grammar b) l g' (child_at ends i k) (F (child_at ends i k))
-          written_kids F this others keep k y (yes q) =
-              subst (λ m. Written (grammar b) l g' m (F m)) (n.stands ∙ ap (child_at ends i) (sym q)) this
-          written_kids F this others keep k y (no q) =
-              written_still (grammar b) l g g' F child this others (child_at ends i k) (n.kinds_are.there k (omega (arith, here))) (keep k (omega arith))
+      -- its settings are k of all, from the place at on
+      module _ {at k : ℕ} (ea : at ≡ (get_or nodes child unread).first_setting) (ew' : k ≡ width) where
+        pub naming_long : length (take k (drop at g)) ≡ width
+        naming_long = length_part at k g (omega (arith, naming_fits)) ∙ ew'
 
-          step : (hs : List Held) (c d u : List ℕ) → Holding hs s stamps₀ numbers₀ →
-              let T = tables c d u w in
-              let xs = kid_labels (grammar b) T e 1 (take (j + 1) ((grammar b).kids p)) in
-              Holding (hs ++ held xs (numbered hs first xs)) s stamps' numbers' × (next' ≡ unused hs first xs)
-              × ((F : ℕ → List ℕ)
-              → ((k : ℕ) → k < length ((grammar b).kids p) → F (child_at ends i k)
-              ≡ part (kinds_width (grammar b) (take k ((grammar b).kids p))) ((grammar b).settings (get_or ((grammar b).kids p) k 0)) (numbered hs first (kid_labels (grammar b) T e 1 ((grammar b).kids p))))
-              → ((m : ℕ) → m < length l → Written (grammar b) l g₀ m (F m) → Written (grammar b) l g' m (F m))
-              × ((k : ℕ) → k < j + 1 → Written (grammar b) l g' (child_at ends i k) (F (child_at ends i k))))
-          step hs c d u q =
-              let T = tables c d u w in
-              let ks = (grammar b).kids p in
-              let a = kid_labels (grammar b) T e 1 (take j ks) in
-              let v = (grammar b).settings (get_or ks j 0) in
-              let z = slot_labels T e (suc j) 0 v in
-              let (hold, en, keep) = n.given hs c d u q in
-              let hs' = holding hs first a in
-              let n' = unused hs first a in
-              let o' : Slot w e (suc j) v (all_settings (grammar b) (take child l)) s n' stamps numbers g stamps' numbers' g' next'
-              = rw (← add-one j, ← es, ← naming_width ex ew, ← placed, ← en) o in
-              let (hold', en', eg) = o'.given hs' c d u hold in
-              let ls : kid_labels (grammar b) T e 1 (take (j + 1) ks) ≡ a ++ z = ap (λ m. kid_labels (grammar b) T e 1 (take m ks)) (add-one j) ∙ kids_more (grammar b) T e ks j here in
-              let ns = numbered hs' n' z in
-              let long : length ns ≡ (grammar b).settings ((grammar b).left (get_or l child 0))
-              = numbered_long hs' n' z ∙ slot_labels_long T e (suc j) 0 v ∙ sym same_kind in
-              let room : all_settings (grammar b) l ≤ length g = omega (arith, n.room, n.long) in
-              let others : (m : ℕ) (us : List ℕ) → m < length l → (m ≡ child → ⊥) → Written (grammar b) l g m us → Written (grammar b) l g' m us
-              = λ m us k d y. rw eg (written_other (grammar b) l g child ns there room long m us k d y) in
-              rw ls (
-                rw (holding_append hs first a z) hold',
-                en' ∙ sym (unused_append hs first a z),
-                λ F f.
-                    let own : F child ≡ ns = ap F n.stands ∙ f j here ∙ child_part (grammar b) T e ks j here hs first in
-                    let this : Written (grammar b) l g' child (F child) = rw (eg, own) (written_this (grammar b) l g child ns there room long) in (
-                      λ m k y. written_still (grammar b) l g g' F child this others m k ((keep F f).0 m k y),
-                      λ k y. written_kids F this others (keep F f).1 k y (ℕ_discrete k j),
-                    ),
-              )
+        pub naming_turn : {holders' : List Holder} {ys : List ℕ} {next' child' : ℕ} → Slot x.tables.down.now e (j + 1) s next holders (take k (drop at g)) holders' ys next'
+            → length ys ≡ length (take k (drop at g)) → child' ≡ (get_or nodes child unread).end
+            → Naming x nodes i s e first holders₀ g₀ holders' (put_mid at k g ys) next' child' (j + 1)
+        naming_turn {holders'} {ys} {next'} o ly ec = record {
+          few = omega (arith, o.few, naming_long, n.few);
+          stands = child_next (subtree_ends nodes) i j n.stands (ec ∙ sym (end_at nodes child));
+          kept = o.kept ∙ n.kept;
+          long = same_len_mid at k g ys ly ∙ n.long;
+          beyond = drop-put_mid at k g ys _ (omega (arith, ends, ea, ew', placed, width_is, same_kind)) (omega (arith, naming_fits, ea)) wide' ∙ n.beyond;
+          given = step;
+        }
+          where
+            ends : all_settings (grammar_in x) (take child x.sheet.now) + (grammar_in x).settings ((grammar_in x).left (get_or x.sheet.now child 0)) ≤ all_settings (grammar_in x) x.sheet.now
+            ends = settings_inside (grammar_in x) x.sheet.now child there
 
-  pub naming_done : kids ≤ j → Family (grammar b) l w e p ends i s first stamps₀ numbers₀ g₀ stamps numbers g next
-  naming_done h =
-      let all : take j ((grammar b).kids p) ≡ (grammar b).kids p = take_all j ((grammar b).kids p) (omega (arith, n.opened.count)) in
-      let few : j ≡ length ((grammar b).kids p) = omega (arith, n.opened.count, n.within) in
-      record {
-        stamps_kept = n.stamps_long ∙ sym n.first_stamps;
-        numbers_kept = n.numbers_long ∙ sym n.first_numbers;
-        long = n.long;
-        beyond = n.beyond;
-        given = λ hs c d u q.
-            let (hold, en, keep) = n.given hs c d u q in (
-              rw all at hold,
-              en ∙ ap (λ t. unused hs first (kid_labels (grammar b) (tables c d u w) e 1 t)) all,
-              λ F f. ((keep F f).0, λ k l. (keep F f).1 k (omega arith)),
-            );
-      }
+            wide : length ys ≡ width
+            wide = ly ∙ naming_long
+
+            wide' : length ys ≡ k
+            wide' = wide ∙ sym ew'
+
+            new : put_mid at k g ys ≡ place (all_settings (grammar_in x) (take child x.sheet.now)) ys g
+            new = put_back at k g ys (sym wide') ∙ ap (λ m. place m ys g) (ea ∙ placed)
+
+            step : (hs : List Held) → Holding hs s holders₀ →
+                let p = get_or x.sheet.now i 0 in
+                let xs = kid_labels (grammar_in x) (tables_in x) e 1 (take (j + 1) ((grammar_in x).kids p)) in
+                Holding (hs ++ held xs (numbered hs first xs)) s holders' × (next' ≡ unused hs first xs)
+                × Puts (grammar_in x) x.sheet.now (subtree_ends nodes) i p (numbered hs first (kid_labels (grammar_in x) (tables_in x) e 1 ((grammar_in x).kids p))) (j + 1) g₀ (put_mid at k g ys)
+            step hs q =
+                let G = grammar_in x in
+                let T = tables_in x in
+                let l = x.sheet.now in
+                let p = get_or l i 0 in
+                let ks = G.kids p in
+                let a = kid_labels G T e 1 (take j ks) in
+                let v = G.settings (get_or ks j 0) in
+                let z = slot_labels T e (suc j) 0 v in
+                let (hold, en, keep) = n.given hs q in
+                let hs' = holding hs first a in
+                let n' = unused hs first a in
+                let (hold₁, en₁, ey₁) = o.given hs' T.plausible_counts T.feasible_counts T.up hold in
+                let lz : slot_labels T e (j + 1) 0 (length (take k (drop at g))) ≡ z = ap₂ (λ m w. slot_labels T e m 0 w) (add-one j) (naming_long ∙ width_is) in
+                let ls : kid_labels G T e 1 (take (j + 1) ks) ≡ a ++ z = ap (λ m. kid_labels G T e 1 (take m ks)) (add-one j) ∙ kids_more G T e ks j here in
+                let ns = numbered hs' n' z in
+                let ey : ys ≡ ns = ey₁ ∙ ap₂ (λ m t. numbered hs' m t) en lz in
+                let ex : next' ≡ unused hs' n' z = en₁ ∙ ap₂ (λ m t. unused hs' m t) en lz in
+                let hold' : Holding (hs' ++ held z ns) s holders'
+                = subst (λ m. Holding (hs' ++ held z (numbered hs' m z)) s holders') en
+                (subst (λ t. Holding (hs' ++ held t (numbered hs' next t)) s holders') lz hold₁) in
+                let long : length ns ≡ G.settings (G.left (get_or l child 0)) = numbered_long hs' n' z ∙ slot_labels_long T e (suc j) 0 v ∙ sym same_kind in
+                let room : all_settings G l ≤ length g = omega (arith, r.room, n.long) in
+                let eg : put_mid at k g ys ≡ place (all_settings G (take child l)) ns g = new ∙ ap (λ t. place (all_settings G (take child l)) t g) ey in
+                let others : (m : ℕ) (us : List ℕ) → m < length l → (m ≡ child → ⊥) → Written G l g m us → Written G l (put_mid at k g ys) m us
+                = λ m us b d y. rw eg (written_other G l g child ns there room long m us b d y) in
+                rw ls (
+                  rw (holding_append hs first a z) hold',
+                  ex ∙ sym (unused_append hs first a z),
+                  λ F f.
+                      let own : F child ≡ ns = ap F n.stands ∙ f j here ∙ child_part G T e ks j here hs first in
+                      let this : Written G l (put_mid at k g ys) child (F child) = rw (eg, own) (written_this G l g child ns there room long) in (
+                        λ m b y. written_still G l g (put_mid at k g ys) F child this others m b ((keep F f).0 m b y),
+                        λ b y. written_kids F this others (keep F f).1 b y (ℕ_discrete b j),
+                      ),
+                )
+              where
+                written_kids : (F : ℕ → List ℕ) → Written (grammar_in x) x.sheet.now (put_mid at k g ys) child (F child)
+                    → ((m : ℕ) (us : List ℕ) → m < length x.sheet.now → (m ≡ child → ⊥) → Written (grammar_in x) x.sheet.now g m us → Written (grammar_in x) x.sheet.now (put_mid at k g ys) m us)
+                    → ((b : ℕ) → b < j → Written (grammar_in x) x.sheet.now g (child_at (subtree_ends nodes) i b) (F (child_at (subtree_ends nodes) i b)))
+                    → (b : ℕ) → b < j + 1 → Dec (b ≡ j) → Written (grammar_in x) x.sheet.now (put_mid at k g ys) (child_at (subtree_ends nodes) i b) (F (child_at (subtree_ends nodes) i b))
+                written_kids F this others keep b y (yes q) =
+                    subst (λ m. Written (grammar_in x) x.sheet.now (put_mid at k g ys) m (F m)) (n.stands ∙ ap (child_at (subtree_ends nodes) i) (sym q)) this
+                written_kids F this others keep b y (no q) =
+                    written_still (grammar_in x) x.sheet.now g (put_mid at k g ys) F child this others (child_at (subtree_ends nodes) i b) (r.kinds_are.there b (omega (arith, here))) (keep b (omega arith))
+
+  -- all children's settings are numbered
+  pub naming_done : j ≡ length ks → (hs : List Held) → Holding hs s holders₀ →
+      let p = get_or x.sheet.now i 0 in
+      let xs = kid_labels (grammar_in x) (tables_in x) e 1 ((grammar_in x).kids p) in
+      Holding (hs ++ held xs (numbered hs first xs)) s holders × (next ≡ unused hs first xs)
+      × Puts (grammar_in x) x.sheet.now (subtree_ends nodes) i p (numbered hs first xs) (length ((grammar_in x).kids p)) g₀ g
+  naming_done h hs q =
+      let kids = (grammar_in x).kids (get_or x.sheet.now i 0) in
+      let few : j ≡ length kids = h ∙ ap length ek in
+      let all : take j kids ≡ kids = take_all j kids (omega arith) in
+      let (hold, en, keep) = n.given hs q in (
+        rw all at hold,
+        en ∙ ap (λ t. unused hs first (kid_labels (grammar_in x) (tables_in x) e 1 t)) all,
+        λ F f. ((keep F f).0, λ b l. (keep F f).1 b (omega arith)),
+      )

@@ -1,4 +1,4 @@
--- The first holder of a label: what one occurrence more changes, in the list and in the arrays by label.
+-- The first holder of a label: what one occurrence more changes, in the list and in the array by label.
 use mathlib.Core.Path.{◌≡◌, refl, sym, ap, ◌∙◌}
 use mathlib.Core.Bool.{Bool, true, false}
 use mathlib.Core.List.{List, [], ◌∷◌, ◌++◌}
@@ -7,11 +7,14 @@ use native.Mathlib.Decide.{ℕ_discrete}
 use native.Mathlib.Omega.{arith}
 use lib.Dec.{eqb}
 use lib.ListN.{length, get_or, set, length-set}
+use Rattle.std.specs.Prelude.{Some, None}
 use lib.Seq.{get_or-set_same, get_or-set_other}
+use Rattle.std.proofs.lemmas.List.{set-get_or}
 use borrow.Author.Tests.{eq-eqb, ne_eqb}
 use Rattle.lists.specs.Pick.{pick}
 use Rattle.numbering.specs.Walk.{Held, holder, holds}
-use Rattle.numbering.specs.Giving.{labels_known, Holding, HeldOne}
+use Rattle.numbering.specs.Giving.{labels_known, nobody, stamp_at, number_at, Holding, HeldOne}
+use Rattle.numbering.specs.declared.numbers.Holder.{Holder}
 
 -- ── in the list ──
 pub holder_append : (y : ℕ) (hs ks : List Held) (n : ℕ) → holder y (hs ++ ks) n ≡ holder y hs (holder y ks n)
@@ -81,90 +84,81 @@ taken_same hs x n y (yes e) = (
     twice true h = holder_some y hs (holder y hs n) n h
     twice false h = holder_none y hs (holder y hs n) h
 
--- ── in the arrays ──
+-- ── in the array ──
 -- what holds the same labels with the same numbers is held alike
-holding_alike : {hs ks : List Held} {s : ℕ} {stamps numbers : List ℕ}
-    → ((y : ℕ) → (holds y ks ≡ holds y hs) × ((m : ℕ) → holder y ks m ≡ holder y hs m)) → Holding hs s stamps numbers → Holding ks s stamps numbers
+holding_alike : {hs ks : List Held} {s : ℕ} {holders : List Holder}
+    → ((y : ℕ) → (holds y ks ≡ holds y hs) × ((m : ℕ) → holder y ks m ≡ holder y hs m)) → Holding hs s holders → Holding ks s holders
 holding_alike e h = record {
-  stamps_long = h.stamps_long;
-  numbers_long = h.numbers_long;
+  long = h.long;
   latest = h.latest;
   stamped = λ y l g. ((e y).0 ∙ (h.stamped y l g).0, λ m. (e y).1 m ∙ (h.stamped y l g).1 m);
   blank = λ y l g. (e y).0 ∙ h.blank y l g;
 }
 
-pub holding_taken : (hs : List Held) {s : ℕ} {stamps numbers : List ℕ} (x n : ℕ) → Holding (hs ++ (x, n) ∷ []) s stamps numbers
-    → Holding (hs ++ (x, holder x hs n) ∷ []) s stamps numbers
+pub holding_taken : (hs : List Held) {s : ℕ} {holders : List Holder} (x n : ℕ) → Holding (hs ++ (x, n) ∷ []) s holders
+    → Holding (hs ++ (x, holder x hs n) ∷ []) s holders
 holding_taken hs x n h = holding_alike (λ y. taken_same hs x n y (ℕ_discrete y x)) h
 
 -- nothing is held where every stamp is earlier
-pub holding_none : {s : ℕ} {stamps numbers : List ℕ} → length stamps ≡ labels_known → length numbers ≡ labels_known → ((x : ℕ) → get_or stamps x 0 < s)
-    → Holding [] s stamps numbers
-holding_none l m h = record {
-  stamps_long = l;
-  numbers_long = m;
+pub holding_none : {s : ℕ} {holders : List Holder} → length holders ≡ labels_known → ((x : ℕ) → stamp_at holders x < s) → Holding [] s holders
+holding_none l h = record {
+  long = l;
   latest = λ x. omega (arith, h x);
   stamped = λ x k e. absurd (omega (arith, h x));
   blank = λ x k e. refl;
 }
 
-module _ {s x : ℕ} (n : ℕ) {stamps numbers : List ℕ} (low : x < labels_known) where
-  again : (hs : List Held) → get_or stamps x 0 ≡ s → Holding hs s stamps numbers → Holding (hs ++ (x, n) ∷ []) s stamps numbers
+module _ {s x : ℕ} (n : ℕ) {holders : List Holder} (low : x < labels_known) where
+  again : (hs : List Held) → stamp_at holders x ≡ s → Holding hs s holders → Holding (hs ++ (x, n) ∷ []) s holders
   again hs e h = record {
-    stamps_long = h.stamps_long;
-    numbers_long = h.numbers_long;
+    long = h.long;
     latest = h.latest;
     stamped = λ y l g. kept y l g (ℕ_discrete y x);
-    blank = λ y l g. holds_other hs x n y (λ q. g (ap (λ t. get_or stamps t 0) q ∙ e)) ∙ h.blank y l g;
+    blank = λ y l g. holds_other hs x n y (λ q. g (ap (stamp_at holders) q ∙ e)) ∙ h.blank y l g;
   }
     where
-      kept : (y : ℕ) → y < labels_known → get_or stamps y 0 ≡ s → Dec (y ≡ x)
-          → (holds y (hs ++ (x, n) ∷ []) ≡ true) × ((m : ℕ) → holder y (hs ++ (x, n) ∷ []) m ≡ get_or numbers y 0)
+      kept : (y : ℕ) → y < labels_known → stamp_at holders y ≡ s → Dec (y ≡ x)
+          → (holds y (hs ++ (x, n) ∷ []) ≡ true) × ((m : ℕ) → holder y (hs ++ (x, n) ∷ []) m ≡ number_at holders y)
       kept y l g (yes q) = (holds_same hs x n y q, λ m. holder_same hs x n y m q ∙ (h.stamped y l g).1 n)
       kept y l g (no q) = (holds_other hs x n y q ∙ (h.stamped y l g).0, λ m. holder_other hs x n y m q ∙ (h.stamped y l g).1 m)
 
   -- the label is held already: nothing changes
-  pub held_again : get_or stamps x 0 ≡ s → HeldOne s x n stamps numbers stamps numbers 0
-  held_again e = record { stamps_kept = refl; numbers_kept = refl; more = λ hs h. (again hs e h, rw (h.stamped x low e).0, sym ((h.stamped x low e).1 n)) }
+  pub held_again : stamp_at holders x ≡ s → HeldOne s x n holders (set holders x (get_or holders x nobody)) (Some (number_at holders x))
+  held_again e =
+      rw (set-get_or holders x nobody)
+      (record { kept = refl; more = λ hs h. (again hs e h, rw (h.stamped x low e).0 (ap (λ m. Some m) (sym ((h.stamped x low e).1 n)))) })
 
-  first : (hs : List Held) → (get_or stamps x 0 ≡ s → ⊥) → Holding hs s stamps numbers → Holding (hs ++ (x, n) ∷ []) s (set stamps x s) (set numbers x n)
+  first : (hs : List Held) → (stamp_at holders x ≡ s → ⊥) → Holding hs s holders → Holding (hs ++ (x, n) ∷ []) s (set holders x (record { stamp = s; number = n }))
   first hs e h = record {
-    stamps_long = length-set stamps x s ∙ h.stamps_long;
-    numbers_long = length-set numbers x n ∙ h.numbers_long;
+    long = length-set holders x _ ∙ h.long;
     latest = λ y. late y (ℕ_discrete y x);
     stamped = λ y l g. kept y l g (ℕ_discrete y x);
     blank = λ y l g. bare y l g (ℕ_discrete y x);
   }
     where
-      here : (y : ℕ) → y ≡ x → get_or (set stamps x s) y 0 ≡ s
-      here y q = ap (λ t. get_or (set stamps x s) t 0) q ∙ get_or-set_same stamps x s 0 (omega (arith, h.stamps_long))
+      here : (y : ℕ) → y ≡ x → get_or (set holders x (record { stamp = s; number = n })) y nobody ≡ record { stamp = s; number = n }
+      here y q = ap (λ t. get_or (set holders x (record { stamp = s; number = n })) t nobody) q ∙ get_or-set_same holders x _ nobody (omega (arith, h.long))
 
-      late : (y : ℕ) → Dec (y ≡ x) → get_or (set stamps x s) y 0 ≤ s
-      late y (yes q) = omega (arith, here y q)
-      late y (no q) = omega (arith, get_or-set_other stamps x y s 0 q, h.latest y)
+      other : (y : ℕ) → (y ≡ x → ⊥) → get_or (set holders x (record { stamp = s; number = n })) y nobody ≡ get_or holders y nobody
+      other y q = get_or-set_other holders x y _ nobody q
 
-      kept : (y : ℕ) → y < labels_known → get_or (set stamps x s) y 0 ≡ s → Dec (y ≡ x)
-          → (holds y (hs ++ (x, n) ∷ []) ≡ true) × ((m : ℕ) → holder y (hs ++ (x, n) ∷ []) m ≡ get_or (set numbers x n) y 0)
+      late : (y : ℕ) → Dec (y ≡ x) → stamp_at (set holders x (record { stamp = s; number = n })) y ≤ s
+      late y (yes q) = omega (arith, ap (λ (t : Holder). t.stamp) (here y q))
+      late y (no q) = omega (arith, ap (λ (t : Holder). t.stamp) (other y q), h.latest y)
+
+      kept : (y : ℕ) → y < labels_known → stamp_at (set holders x (record { stamp = s; number = n })) y ≡ s → Dec (y ≡ x)
+          → (holds y (hs ++ (x, n) ∷ []) ≡ true) × ((m : ℕ) → holder y (hs ++ (x, n) ∷ []) m ≡ number_at (set holders x (record { stamp = s; number = n })) y)
       kept y l g (yes q) =
           let b : holds y hs ≡ false = ap (λ t. holds t hs) q ∙ h.blank x low e in
-          let v : get_or (set numbers x n) y 0 ≡ n = ap (λ t. get_or (set numbers x n) t 0) q ∙ get_or-set_same numbers x n 0 (omega (arith, h.numbers_long)) in
-          (holds_same hs x n y q, λ m. holder_same hs x n y m q ∙ holder_none y hs n b ∙ sym v)
+          (holds_same hs x n y q, λ m. holder_same hs x n y m q ∙ holder_none y hs n b ∙ sym (ap (λ (t : Holder). t.number) (here y q)))
       kept y l g (no q) =
-          let g' : get_or stamps y 0 ≡ s = sym (get_or-set_other stamps x y s 0 q) ∙ g in
-          (holds_other hs x n y q ∙ (h.stamped y l g').0, λ m. holder_other hs x n y m q ∙ (h.stamped y l g').1 m ∙ sym (get_or-set_other numbers x y n 0 q))
+          let g' : stamp_at holders y ≡ s = sym (ap (λ (t : Holder). t.stamp) (other y q)) ∙ g in
+          (holds_other hs x n y q ∙ (h.stamped y l g').0, λ m. holder_other hs x n y m q ∙ (h.stamped y l g').1 m ∙ sym (ap (λ (t : Holder). t.number) (other y q)))
 
-      bare : (y : ℕ) → y < labels_known → (get_or (set stamps x s) y 0 ≡ s → ⊥) → Dec (y ≡ x) → holds y (hs ++ (x, n) ∷ []) ≡ false
-      bare y l g (yes q) = absurd (g (here y q))
-      bare y l g (no q) = holds_other hs x n y q ∙ h.blank y l (λ z. g (get_or-set_other stamps x y s 0 q ∙ z))
+      bare : (y : ℕ) → y < labels_known → (stamp_at (set holders x (record { stamp = s; number = n })) y ≡ s → ⊥) → Dec (y ≡ x) → holds y (hs ++ (x, n) ∷ []) ≡ false
+      bare y l g (yes q) = absurd (g (ap (λ (t : Holder). t.stamp) (here y q)))
+      bare y l g (no q) = holds_other hs x n y q ∙ h.blank y l (λ z. g (ap (λ (t : Holder). t.stamp) (other y q) ∙ z))
 
   -- the label was not held: it is now
-  pub held_first : (get_or stamps x 0 ≡ s → ⊥) → HeldOne s x n stamps numbers (set stamps x s) (set numbers x n) 1
-  held_first e = record {
-    stamps_kept = length-set stamps x s;
-    numbers_kept = length-set numbers x n;
-    more = λ hs h. (
-      first hs e h,
-      rw (h.blank x low e),
-      get_or-set_same numbers x n 0 (omega (arith, h.numbers_long)) ∙ sym (holder_none x hs n (h.blank x low e)),
-    );
-  }
+  pub held_first : (stamp_at holders x ≡ s → ⊥) → HeldOne s x n holders (set holders x (record { stamp = s; number = n })) None
+  held_first e = record { kept = length-set holders x _; more = λ hs h. (first hs e h, rw (h.blank x low e) refl) }

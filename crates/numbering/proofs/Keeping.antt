@@ -1,64 +1,120 @@
--- What a way in does to the ranks of each kind, and what a way out finds there.
-use mathlib.Core.Path.{◌≡◌, refl, sym, ◌∙◌}
-use mathlib.Core.Bool.{Bool, true, false, true≢false}
-use mathlib.Core.List.{List}
-use Prim.Native.Nat.{ℕ, ◌+◌, ◌≤◌, ◌<◌}
-use native.Mathlib.Omega.{arith}
-use lib.ListN.{length, get_or, set, length-set, length-drop}
-use lib.Seq.{length-take-le, take-set-le, take-set-lt, drop-set-lt, drop-set-add, get_or-take, get_or-drop}
-use Rattle.chains.specs.Limits.{max_nodes}
-use Rattle.numbering.specs.KeptRanks.{room, plausible_ranks, feasible_ranks, KeptIn, KeptPlausible, KeptFeasible, OnlyFeasible}
+-- The nodes' fields as lists: what a write to a node does to each.
+use Rattle.std.proofs.Common.{◌≡◌, List, ℕ, length, get_or, refl, ◌∙◌}
+use Rattle.std.proofs.Math.ListN.{set, get_or-map, length-map}
+use Rattle.std.proofs.lemmas.List.{map-set}
+use Rattle.std.proofs.Math.Seq.{map-set_same}
+use Rattle.numbering.specs.Nodes.{plausible_ranks, feasible_ranks, subtree_ends, first_settings, down_entries, SameUpward, OnlyFeasible, OnlyPlaces}
+use Rattle.numbering.specs.declared.nodes.Node.{Node}
 
--- ── one rank a node, of each kind ──
-pub plausible_long : (kept : List ℕ) → length kept ≡ room → length (plausible_ranks kept) ≡ max_nodes
-unfolding plausible_ranks
-plausible_long kept l = length-take-le max_nodes kept (omega arith)
+-- a node before it is read
+abbrev pub unread : Node
+unread = record { plausible = record { 0 = 0 }; feasible = record { 0 = 0 }; end = 0; first_setting = 0; entry = 0 }
 
-pub feasible_long : (kept : List ℕ) → length kept ≡ room → length (feasible_ranks kept) ≡ max_nodes
-unfolding feasible_ranks
-feasible_long kept l = omega (arith, length-drop max_nodes kept)
+module _ (nodes : List Node) where
+  -- ── what is read ──
+  module _ (i : ℕ) where
+    pub plausible_at : get_or (plausible_ranks nodes) i 0 ≡ (get_or nodes i unread).plausible.0
+    unfolding plausible_ranks
+    plausible_at = get_or-map (λ (n : Node). n.plausible.0) nodes i unread
 
--- ── out ──
-pub plausible_at : (kept : List ℕ) (i : ℕ) → i < max_nodes → get_or kept i 0 ≡ get_or (plausible_ranks kept) i 0
-unfolding plausible_ranks
-plausible_at kept i h = sym (get_or-take max_nodes kept i 0 h)
+    pub feasible_at : get_or (feasible_ranks nodes) i 0 ≡ (get_or nodes i unread).feasible.0
+    unfolding feasible_ranks
+    feasible_at = get_or-map (λ (n : Node). n.feasible.0) nodes i unread
 
-pub feasible_at : (kept : List ℕ) (i : ℕ) → get_or kept (max_nodes + i) 0 ≡ get_or (feasible_ranks kept) i 0
-unfolding feasible_ranks
-feasible_at kept i = sym (get_or-drop max_nodes kept i 0)
+    pub end_at : get_or (subtree_ends nodes) i 0 ≡ (get_or nodes i unread).end
+    unfolding subtree_ends
+    end_at = get_or-map (λ (n : Node). n.end) nodes i unread
 
--- ── in ──
-kept_low : {s : List ℕ} {i r n : ℕ} {s' : List ℕ} → r < n → s' ≡ set s i r → KeptIn s i r n s' true
-kept_low l e = record { low = λ t. (l, e); high = λ t. absurd (true≢false t) }
+    pub first_at : get_or (first_settings nodes) i 0 ≡ (get_or nodes i unread).first_setting
+    unfolding first_settings
+    first_at = get_or-map (λ (n : Node). n.first_setting) nodes i unread
 
-kept_high : (s : List ℕ) (i : ℕ) {r n : ℕ} → n ≤ r → KeptIn s i r n s false
-kept_high s i l = record { low = λ t. absurd (true≢false (sym t)); high = λ t. (l, refl) }
+    pub entry_at : get_or (down_entries nodes) i 0 ≡ (get_or nodes i unread).entry
+    unfolding down_entries
+    entry_at = get_or-map (λ (n : Node). n.entry) nodes i unread
 
-module _ (kept : List ℕ) (i : ℕ) {r n : ℕ} where
-  pub plausible_low : i < max_nodes → r < n → KeptPlausible kept i r n (set kept i r) true
-  unfolding plausible_ranks feasible_ranks
-  plausible_low h l = record { long = length-set kept i r; own = kept_low l (take-set-lt max_nodes kept i r h); others = drop-set-lt max_nodes kept i r h }
+  -- ── their lengths ──
+  pub plausible_long : length (plausible_ranks nodes) ≡ length nodes
+  unfolding plausible_ranks
+  plausible_long = length-map nodes (λ (n : Node). n.plausible.0)
 
-  pub feasible_low : r < n → KeptFeasible kept i r n (set kept (max_nodes + i) r) true
-  unfolding plausible_ranks feasible_ranks
-  feasible_low l = record {
-    long = length-set kept (max_nodes + i) r;
-    own = kept_low l (drop-set-add max_nodes kept i r);
-    others = take-set-le max_nodes kept (max_nodes + i) r (omega arith);
-  }
+  pub feasible_long : length (feasible_ranks nodes) ≡ length nodes
+  unfolding feasible_ranks
+  feasible_long = length-map nodes (λ (n : Node). n.feasible.0)
 
-  pub plausible_high : n ≤ r → KeptPlausible kept i r n kept false
-  plausible_high l = record { long = refl; own = kept_high (plausible_ranks kept) i l; others = refl }
+  pub ends_long : length (subtree_ends nodes) ≡ length nodes
+  unfolding subtree_ends
+  ends_long = length-map nodes (λ (n : Node). n.end)
 
-  pub feasible_high : n ≤ r → KeptFeasible kept i r n kept false
-  feasible_high l = record { long = refl; own = kept_high (feasible_ranks kept) i l; others = refl }
+  pub firsts_long : length (first_settings nodes) ≡ length nodes
+  unfolding first_settings
+  firsts_long = length-map nodes (λ (n : Node). n.first_setting)
 
--- ── no plausible rank changes ──
-pub only_none : (kept : List ℕ) → OnlyFeasible kept kept
-only_none kept = record { long = refl; plausible = refl }
+  pub entries_long : length (down_entries nodes) ≡ length nodes
+  unfolding down_entries
+  entries_long = length-map nodes (λ (n : Node). n.entry)
 
-pub only_kept : {kept : List ℕ} {i r n : ℕ} {kept' : List ℕ} {o : Bool} → KeptFeasible kept i r n kept' o → OnlyFeasible kept kept'
-only_kept k = record { long = k.long; plausible = k.others }
+  -- ── a write: the field is set, or as it was where the new node has it from the old one ──
+  module _ (i : ℕ) (n : Node) where
+    pub plausible_set : plausible_ranks (set nodes i n) ≡ set (plausible_ranks nodes) i n.plausible.0
+    unfolding plausible_ranks
+    plausible_set = map-set (λ (m : Node). m.plausible.0) nodes i n
 
-pub only_more : {kept kept' kept'' : List ℕ} → OnlyFeasible kept kept' → OnlyFeasible kept' kept'' → OnlyFeasible kept kept''
-only_more a b = record { long = b.long ∙ a.long; plausible = b.plausible ∙ a.plausible }
+    pub feasible_set : feasible_ranks (set nodes i n) ≡ set (feasible_ranks nodes) i n.feasible.0
+    unfolding feasible_ranks
+    feasible_set = map-set (λ (m : Node). m.feasible.0) nodes i n
+
+    pub ends_set : subtree_ends (set nodes i n) ≡ set (subtree_ends nodes) i n.end
+    unfolding subtree_ends
+    ends_set = map-set (λ (m : Node). m.end) nodes i n
+
+    pub firsts_set : first_settings (set nodes i n) ≡ set (first_settings nodes) i n.first_setting
+    unfolding first_settings
+    firsts_set = map-set (λ (m : Node). m.first_setting) nodes i n
+
+    pub entries_set : down_entries (set nodes i n) ≡ set (down_entries nodes) i n.entry
+    unfolding down_entries
+    entries_set = map-set (λ (m : Node). m.entry) nodes i n
+
+    pub plausible_same : n.plausible.0 ≡ (get_or nodes i unread).plausible.0 → plausible_ranks (set nodes i n) ≡ plausible_ranks nodes
+    unfolding plausible_ranks
+    plausible_same e = map-set_same (λ (m : Node). m.plausible.0) nodes i n unread e
+
+    pub feasible_same : n.feasible.0 ≡ (get_or nodes i unread).feasible.0 → feasible_ranks (set nodes i n) ≡ feasible_ranks nodes
+    unfolding feasible_ranks
+    feasible_same e = map-set_same (λ (m : Node). m.feasible.0) nodes i n unread e
+
+    pub ends_same : n.end ≡ (get_or nodes i unread).end → subtree_ends (set nodes i n) ≡ subtree_ends nodes
+    unfolding subtree_ends
+    ends_same e = map-set_same (λ (m : Node). m.end) nodes i n unread e
+
+    pub entries_same : n.entry ≡ (get_or nodes i unread).entry → down_entries (set nodes i n) ≡ down_entries nodes
+    unfolding down_entries
+    entries_same e = map-set_same (λ (m : Node). m.entry) nodes i n unread e
+
+-- ── what stays ──
+pub only_none : (nodes : List Node) → OnlyFeasible nodes nodes
+only_none nodes = record { upward = record { plausible = refl; ends = refl }; entries = refl }
+
+pub upward_set : (nodes : List Node) (i : ℕ) (n : Node) → n.plausible.0 ≡ (get_or nodes i unread).plausible.0 → n.end ≡ (get_or nodes i unread).end
+    → SameUpward nodes (set nodes i n)
+upward_set nodes i n ep ee = record { plausible = plausible_same nodes i n ep; ends = ends_same nodes i n ee }
+
+pub only_set : (nodes : List Node) (i : ℕ) (n : Node) → n.plausible.0 ≡ (get_or nodes i unread).plausible.0 → n.end ≡ (get_or nodes i unread).end
+    → n.entry ≡ (get_or nodes i unread).entry → OnlyFeasible nodes (set nodes i n)
+only_set nodes i n ep ee et = record { upward = upward_set nodes i n ep ee; entries = entries_same nodes i n et }
+
+pub upward_more : {nodes nodes' nodes'' : List Node} → SameUpward nodes nodes' → SameUpward nodes' nodes'' → SameUpward nodes nodes''
+upward_more a b = record { plausible = b.plausible ∙ a.plausible; ends = b.ends ∙ a.ends }
+
+pub only_more : {nodes nodes' nodes'' : List Node} → OnlyFeasible nodes nodes' → OnlyFeasible nodes' nodes'' → OnlyFeasible nodes nodes''
+only_more a b = record { upward = upward_more a.upward b.upward; entries = b.entries ∙ a.entries }
+
+pub places_none : (nodes : List Node) → OnlyPlaces nodes nodes
+places_none nodes = record { ends = refl; entries = refl }
+
+pub places_set : (nodes : List Node) (i : ℕ) (n : Node) → n.end ≡ (get_or nodes i unread).end → n.entry ≡ (get_or nodes i unread).entry → OnlyPlaces nodes (set nodes i n)
+places_set nodes i n ee et = record { ends = ends_same nodes i n ee; entries = entries_same nodes i n et }
+
+pub places_more : {nodes nodes' nodes'' : List Node} → OnlyPlaces nodes nodes' → OnlyPlaces nodes' nodes'' → OnlyPlaces nodes nodes''
+places_more a b = record { ends = b.ends ∙ a.ends; entries = b.entries ∙ a.entries }

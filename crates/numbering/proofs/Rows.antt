@@ -1,83 +1,40 @@
 -- The loop that tells of each node in three places.
-use mathlib.Core.Path.{◌≡◌, refl, sym, ap, subst, ◌∙◌}
-use mathlib.Core.List.{List, [], ◌∷◌, ◌++◌, append_assoc}
-use Prim.Native.Nat.{ℕ, zero, suc, ◌+◌, ◌*◌, ◌≤◌, ◌<◌}
-use native.Mathlib.Nat.{add-zero}
-use native.Mathlib.Numerals.{add-one}
-use native.Mathlib.Omega.{arith}
-use lib.ListN.{length, get_or, drop, set}
-use lib.Seq.{drop-cons}
-use Rattle.chains.specs.Limits.{max_nodes}
+use Rattle.std.proofs.Common.{◌≡◌, List, [], ◌∷◌, ◌++◌, ℕ, ◌+◌, ◌-◌, ◌*◌, ◌<◌, length, get_or, take, drop, refl, sym, ap, ap₂, ◌∙◌, arith, append_assoc, add-one}
+use Rattle.std.proofs.Math.Seq.{take-suc, take_at, drop_at, take_all, length-take-le}
+use Rattle.std.proofs.lemmas.List.{drop-drop}
+use borrow.Rule.Slice.PartMut.{put_mid}
 use Rattle.numbering.specs.Giving.{rows}
+use Rattle.numbering.specs.declared.nodes.Node.{Node}
+use Rattle.numbering.proofs.Keeping.{unread}
 
-module _ (p f e : List ℕ) where
-  rows_more : (i n : ℕ) → rows p f e i (suc n) ≡ rows p f e i n ++ get_or p (i + n) 0 ∷ get_or f (i + n) 0 ∷ get_or e (i + n) 0 ∷ []
-  unfolding rows
-  rows_more i zero = rw (add-zero i)
-  rows_more i (suc n) =
-      let m : suc i + n ≡ i + suc n = omega arith in
-      ap (λ t. get_or p i 0 ∷ get_or f i 0 ∷ get_or e i 0 ∷ t)
-      (rows_more (suc i) n ∙ ap (λ k. rows p f e (suc i) n ++ get_or p k 0 ∷ get_or f k 0 ∷ get_or e k 0 ∷ []) m)
+pub rows_append : (a b : List Node) → rows (a ++ b) ≡ rows a ++ rows b
+rows_append [] b = refl
+rows_append (n ∷ a) b = ap (λ t. n.plausible.0 ∷ n.feasible.0 ∷ n.entry ∷ t) (rows_append a b)
 
-  rows_long : (i n : ℕ) → length (rows p f e i n) ≡ 3 * n
-  unfolding rows
-  rows_long i zero = refl
-  rows_long i (suc n) = omega (arith, rows_long (suc i) n)
+rows_long : (a : List Node) → length (rows a) ≡ 3 * length a
+rows_long [] = refl
+rows_long (n ∷ a) = omega (arith, rows_long a)
 
--- three stores in a row
-sets_three : (r : List ℕ) (x y z a b c : ℕ) (s : List ℕ)
-    → set (set (set (r ++ x ∷ y ∷ z ∷ s) (length r) a) (suc (length r)) b) (suc (suc (length r))) c ≡ r ++ a ∷ b ∷ c ∷ s
-sets_three [] x y z a b c s = refl
-sets_three (t ∷ r) x y z a b c s = ap (λ u. t ∷ u) (sets_three r x y z a b c s)
+-- of the nodes the first i are told
+pub record Telling (known : List Node) (s₀ s : List ℕ) (i : ℕ) : Type 0 where
+  pub told : s ≡ rows (take i known) ++ drop (3 * i) s₀
 
-sets_at : (r : List ℕ) (n x y z a b c : ℕ) (s : List ℕ) → length r ≡ n
-    → set (set (set (r ++ x ∷ y ∷ z ∷ s) n a) (n + 1) b) (n + 2) c ≡ r ++ a ∷ b ∷ c ∷ s
-sets_at r n x y z a b c s l =
-    let two : length r + 2 ≡ suc (suc (length r)) = omega arith in
-    let here : set (set (set (r ++ x ∷ y ∷ z ∷ s) (length r) a) (length r + 1) b) (length r + 2) c ≡ r ++ a ∷ b ∷ c ∷ s
-    = rw (add-one (length r), two) (sets_three r x y z a b c s) in
-    subst (λ m. set (set (set (r ++ x ∷ y ∷ z ∷ s) m a) (m + 1) b) (m + 2) c ≡ r ++ a ∷ b ∷ c ∷ s) l here
+pub telling_none : {known : List Node} {s : List ℕ} → Telling known s s 0
+telling_none = record { told = refl }
 
-drop_three : (s : List ℕ) (i : ℕ) → suc (suc i) < length s → drop i s ≡ get_or s i 0 ∷ get_or s (suc i) 0 ∷ get_or s (suc (suc i)) 0 ∷ drop (suc (suc (suc i))) s
-drop_three s i h =
-    drop-cons s i 0 (omega arith)
-    ∙ ap (λ t. get_or s i 0 ∷ t) (drop-cons s (suc i) 0 (omega arith) ∙ ap (λ t. get_or s (suc i) 0 ∷ t) (drop-cons s (suc (suc i)) 0 h))
+module _ {known : List Node} {s₀ s : List ℕ} {i : ℕ} (t : Telling known s₀ s i) where
+  pub telling_turn : i < length known → {ys : List ℕ} → ys ≡ rows (get_or known i unread ∷ []) → Telling known s₀ (put_mid (3 * i) (3 * i + 3 - 3 * i) s ys) (i + 1)
+  telling_turn h {ys} e =
+      let r = rows (take i known) in
+      let long : length r ≡ 3 * i = rows_long (take i known) ∙ ap (λ n. 3 * n) (length-take-le i known (omega arith)) in
+      let three : 3 * i + 3 - 3 * i ≡ 3 = omega arith in
+      let next : 3 * i + 3 ≡ 3 * (i + 1) = omega arith in
+      let front : take (3 * i) s ≡ r = ap (take (3 * i)) t.told ∙ take_at r _ (3 * i) long in
+      let back : drop (3 * i + 3 - 3 * i) (drop (3 * i) s) ≡ drop (3 * (i + 1)) s₀
+      = ap (λ n. drop n (drop (3 * i) s)) three ∙ ap (λ u. drop 3 (drop (3 * i) u)) t.told ∙ ap (drop 3) (drop_at r _ (3 * i) long) ∙ drop-drop 3 (3 * i) s₀ ∙ ap (λ n. drop n s₀) next in
+      let row : rows (take (i + 1) known) ≡ r ++ ys
+      = ap (λ n. rows (take n known)) (add-one i) ∙ ap rows (take-suc known i unread h) ∙ rows_append (take i known) (get_or known i unread ∷ []) ∙ ap (λ u. r ++ u) (sym e) in
+      record { told = ap₂ (λ (a b : List ℕ). a ++ (ys ++ b)) front back ∙ sym (append_assoc r ys _) ∙ ap (λ u. u ++ drop (3 * (i + 1)) s₀) (sym row) }
 
--- of n nodes the first i are told
-pub record Telling (p f e s₀ : List ℕ) (n : ℕ) (s : List ℕ) (i : ℕ) : Type 0 where
-  pub within : i ≤ n
-  pub few : n ≤ max_nodes
-  pub room : 3 * n ≤ length s₀
-  pub long : length s ≡ length s₀
-  pub told : s ≡ rows p f e 0 i ++ drop (3 * i) s₀
-
-pub telling_none : (p f e s : List ℕ) (n : ℕ) → n ≤ max_nodes → 3 * n ≤ length s → Telling p f e s n s 0
-unfolding rows
-telling_none p f e s n h k = record { within = omega arith; few = h; room = k; long = refl; told = refl }
-
-module _ {p f e s₀ : List ℕ} {n : ℕ} {s : List ℕ} {i : ℕ} (t : Telling p f e s₀ n s i) where
-  pub telling_turn : {a b c : ℕ} → i < n → a ≡ get_or p i 0 → b ≡ get_or f i 0 → c ≡ get_or e i 0
-      → Telling p f e s₀ n (set (set (set s (3 * i) a) (3 * i + 1) b) (3 * i + 2) c) (i + 1)
-  telling_turn {a} {b} {c} h ea eb ec =
-      let r = rows p f e 0 i in
-      let l : length r ≡ 3 * i = rows_long p f e 0 i in
-      let z : 0 + i ≡ i = omega arith in
-      let i3 : suc (suc (suc (3 * i))) ≡ 3 * (i + 1) = omega arith in
-      let d = drop_three s₀ (3 * i) (omega (arith, t.room)) ∙ ap (λ m. get_or s₀ (3 * i) 0 ∷ get_or s₀ (suc (3 * i)) 0 ∷ get_or s₀ (suc (suc (3 * i))) 0 ∷ drop m s₀) i3 in
-      let old : s ≡ r ++ get_or s₀ (3 * i) 0 ∷ get_or s₀ (suc (3 * i)) 0 ∷ get_or s₀ (suc (suc (3 * i))) 0 ∷ drop (3 * (i + 1)) s₀ = t.told ∙ ap (λ u. r ++ u) d in
-      let new : set (set (set s (3 * i) a) (3 * i + 1) b) (3 * i + 2) c ≡ r ++ a ∷ b ∷ c ∷ drop (3 * (i + 1)) s₀
-      = ap (λ u. set (set (set u (3 * i) a) (3 * i + 1) b) (3 * i + 2) c) old
-      ∙ sets_at r (3 * i) (get_or s₀ (3 * i) 0) (get_or s₀ (suc (3 * i)) 0) (get_or s₀ (suc (suc (3 * i))) 0) a b c (drop (3 * (i + 1)) s₀) l in
-      let row : rows p f e 0 (i + 1) ≡ r ++ a ∷ b ∷ c ∷ []
-      = ap (rows p f e 0) (add-one i) ∙ rows_more p f e 0 i
-      ∙ ap (λ k. r ++ get_or p k 0 ∷ get_or f k 0 ∷ get_or e k 0 ∷ []) z ∙ rw (ea, eb, ec) in
-      record {
-        within = omega arith;
-        few = t.few;
-        room = t.room;
-        long = simp lib.ListN.length-set t.long;
-        told = new ∙ sym (append_assoc r (a ∷ b ∷ c ∷ []) (drop (3 * (i + 1)) s₀)) ∙ ap (λ u. u ++ drop (3 * (i + 1)) s₀) (sym row);
-      }
-
-  pub telling_done : n ≤ i → s ≡ rows p f e 0 n ++ drop (3 * n) s₀
-  telling_done h = let q : i ≡ n = omega (arith, t.within) in t.told ∙ ap (λ k. rows p f e 0 k ++ drop (3 * k) s₀) q
+  pub telling_done : i ≡ length known → s ≡ rows known ++ drop (3 * length known) s₀
+  telling_done e = t.told ∙ ap₂ (λ (a : List Node) (n : ℕ). rows a ++ drop (3 * n) s₀) (take_all i known (omega arith)) e

@@ -4,71 +4,66 @@ use mathlib.Core.Bool.{Bool, true, false}
 use mathlib.Core.List.{List, [], ◌∷◌}
 use Prim.Native.Nat.{ℕ}
 use lib.ListN.{length}
-use Rattle.lists.specs.Refusals.{Said, accepted, refused}
+use Rattle.std.specs.Prelude.{◌↔◌, Ok, Err}
+use Rattle.refusals.specs.declared.Refused.{Refused}
+use Rattle.refusals.specs.declared.Refusal.TheVariants.{BadTables}
 use Rattle.book.specs.Format.{grammar}
-use Rattle.book.specs.Reading.{Index}
-use Rattle.bookcheck.specs.Search.{Tells}
-use Rattle.bookcheck.specs.Accepted.{Accepted}
 use Rattle.sheet.specs.Reading.{all_settings}
-use Rattle.sheet.proofs.Accepted.{book_accepted}
+use Rattle.sheet.specs.declared.Counts as sheet
 use Rattle.admission.specs.Refusals.{AdmissionDue}
-use Rattle.admission.specs.Answer as admission_answer
-use Rattle.admission.specs.declared.Admission.{Admission}
-use Rattle.admission.specs.declared.Admission.TheVariants.{Admitted, Refused}
-use Rattle.numbering.specs.Walk.{Tables, tables}
+use Rattle.admission.specs.Answer as admission
+use Rattle.numbering.specs.Walk.{Tables}
 use Rattle.numbering.specs.Promise.{Lent, lent, BigCount, Grouped, CallDue}
-use Rattle.numbering.specs.KeptRanks.{plausible_ranks, feasible_ranks}
-use Rattle.numbering.specs.Parts.{Indexed, ChoiceIs, Choice}
+use Rattle.numbering.specs.Answer.{said}
+use Rattle.numbering.specs.Unrefused.{Unrefused}
+use Rattle.numbering.specs.Parts.{grammar_in, tables_in, Choice}
 use Rattle.numbering.specs.Giving.{Walkable, Filled}
 use Rattle.numbering.specs.Admitting.{measures, Clear}
-use Rattle.numbering.specs.declared.upward.Reads.{Reads}
-use Rattle.numbering.specs.declared.upward.Reads.TheVariants.{All, Bad}
-use Rattle.numbering.proofs.Due.{tree_of, refuses_early, refuses_nothing, refuses_big, refuses_read, nothing_applies}
+use Rattle.numbering.specs.declared.call.Call.{Call}
+use Rattle.numbering.specs.declared.nodes.Node.{Node}
+use Rattle.numbering.proofs.Calls.{tree_in}
+use Rattle.numbering.proofs.Due.{refuses_early, refuses_nothing, refuses_big, refuses_read, nothing_applies}
+use Rattle.admission.specs.Refusals.{of_sheet}
 
 -- what the admission said of the slices that it measured
-module _ {b l : List ℕ} (T : Tables) (m : Lent) {r : Admission} (due : AdmissionDue b l (measures T m) (admission_answer.said r)) where
-  pub let_in : {n s : ℕ} → r ≡ Admitted n s → Clear b l T m × (n ≡ length l) × (s ≡ all_settings (grammar b) l)
-  let_in e = refuses_nothing (subst (λ (x : Admission). AdmissionDue b l (measures T m) (admission_answer.said x)) e due)
+module _ {b l : List ℕ} (T : Tables) (m : Lent) where
+  pub let_in : {c : sheet.Counts} → AdmissionDue b l (measures T m) (admission.said (Ok c)) → Clear b l T m × (c.nodes ≡ length l) × (c.settings ≡ all_settings (grammar b) l)
+  let_in due = refuses_nothing due
 
-  pub kept_out : {n p : ℕ} → r ≡ Refused n p → CallDue b l T m (refused n p) m
-  kept_out e = (refuses_early (subst (λ (x : Admission). AdmissionDue b l (measures T m) (admission_answer.said x)) e due), refl)
+  pub kept_out : (r : Refused) → AdmissionDue b l (measures T m) (admission.said (Err r)) → CallDue b l T m (said (Err r)) m
+  kept_out r due = (refuses_early due, refl)
 
-module _ {b l : List ℕ} {T : Tables} {m : Lent} (clear : Clear b l T m) where
-  pub clear_book : Accepted b
-  clear_book = book_accepted b clear.fits.sound
+pub unrefused : {b l : List ℕ} {T : Tables} {m : Lent} → Clear b l T m → Unrefused b l
+unrefused clear f a = clear.none f.0 f.1 (of_sheet a)
 
-  pub clear_index : {places : List ℕ} → Index b places → Indexed b places
-  clear_index i = record { accepted = clear_book; index = i }
+-- no count is too big
+not_big : {big : Bool} {P : Type 0} → ((big ≡ true) ↔ P) → big ≡ false → P → ⊥
+not_big tells small p = let t = tells.1 p in cc
 
--- one answer, said twice
-due_said : (b l : List ℕ) (T : Tables) (m m' : Lent) {s s' : Said} → s ≡ s' → CallDue b l T m s' m' → CallDue b l T m s m'
-due_said b l T m m' e = subst (λ (x : Said). CallDue b l T m x m') (sym e)
+pub settled_big : {b l : List ℕ} {T : Tables} {m : Lent} → Clear b l T m → {big : Bool} → ((big ≡ true) ↔ BigCount (grammar b) T) → big ≡ true
+    → (z : Refused) → z ≡ record { refusal = BadTables; place = 0 } → CallDue b l T m (said (Err z)) m
+settled_big {b} {l} {T} {m} clear tells e z ez = subst (λ (y : Refused). CallDue b l T m (said (Err y)) m) (sym ez) (refuses_big clear (tells.0 e), refl)
 
-module _ {b l c d u w : List ℕ} {m : Lent} (clear : Clear b l (tables c d u w) m) {r : Bool} (tells : Tells (BigCount (grammar b) (tables c d [] [])) r) where
-  pub settled_big : r ≡ true → {s : Said} → s ≡ refused 25 0 → CallDue b l (tables c d u w) m s m
-  settled_big e es = due_said b l (tables c d u w) m m es (refuses_big clear (tells.holds e), refl)
+pub settled_bad : {x : Call} {m : Lent} → Clear x.book.now x.sheet.now (tables_in x) m → {big : Bool} → ((big ≡ true) ↔ BigCount (grammar_in x) (tables_in x)) → big ≡ false
+    → {nodes : List Node} {z : Refused} → Choice x nodes (Err z) → CallDue x.book.now x.sheet.now (tables_in x) m (said (Err z)) m
+settled_bad {x} clear tells small {z = z} choice =
+    let t = tree_in x in
+    let (is, turn, bad, first) = choice.case t in
+    rw is (refuses_read clear (not_big tells small) t z.place turn bad first, refl)
 
-  module _ (small : r ≡ false) {kept ends entries : List ℕ} {o : Reads} (choice : Choice b l c d u w kept ends entries o) where
-    pub settled_bad : {p : ℕ} → o ≡ Bad p → {s : Said} → s ≡ refused 25 p → CallDue b l (tables c d u w) m s m
-    settled_bad {p} e es =
-        let t = tree_of clear.fits in
-        let (turn, bad, first) = subst (ChoiceIs (grammar b) (tables c d u w) t.tree (plausible_ranks kept) ends (feasible_ranks kept) entries) e (choice.case t) in
-        due_said b l (tables c d u w) m m es (refuses_read clear (tells.fails small) t p turn bad first, refl)
-
-    pub settled_walkable : o ≡ All → Walkable b l w ends entries
-    settled_walkable e =
-        let t = tree_of clear.fits in
-        let (none, chosen) = subst (ChoiceIs (grammar b) (tables c d u w) t.tree (plausible_ranks kept) ends (feasible_ranks kept) entries) e (choice.case t) in
-        record { tree_of = t; ended = chosen.ended; counts = c; feasible_counts = d; up = u; entered = chosen.entered }
+pub settled_walkable : {x : Call} {nodes : List Node} → Choice x nodes (Ok (tt {0})) → Walkable x nodes
+settled_walkable {x} choice =
+    let t = tree_in x in
+    let (none, chosen) = choice.case t in
+    record { tree_of = t; ended = chosen.ended; entered = chosen.entered }
 
 -- everything is written
-pub settled_well : {b l c d u w n g : List ℕ} → Clear b l (tables c d u w) (lent n g) → {r : Bool} → Tells (BigCount (grammar b) (tables c d [] [])) r → r ≡ false
-    → {kept ends entries : List ℕ} {o : Reads} → Choice b l c d u w kept ends entries o → o ≡ All
-    → {count settings : ℕ} → count ≡ length l → settings ≡ all_settings (grammar b) l
-    → {n' g' : List ℕ} {used : ℕ} → Filled b l w (plausible_ranks kept) ends (feasible_ranks kept) entries n g n' g' used
-    → {s : Said} → s ≡ accepted (count ∷ settings ∷ used ∷ []) → CallDue b l (tables c d u w) (lent n g) s (lent n' g')
-settled_well {b} {l} {c} {d} {u} {w} {n} {g} clear tells small {kept} {ends} {entries} choice e en es {n'} {g'} {used} filled said =
-    let t = tree_of clear.fits in
-    let (none, chosen) = subst (ChoiceIs (grammar b) (tables c d u w) t.tree (plausible_ranks kept) ends (feasible_ranks kept) entries) e (choice.case t) in
-    let counts = ap₂ (λ (x y : ℕ). x ∷ y ∷ used ∷ []) en es in
-    due_said b l (tables c d u w) (lent n g) (lent n' g') said (nothing_applies clear (tells.fails small) t none, subst (Grouped (grammar b) l (tables c d u w) (lent n g) (lent n' g')) (sym counts) (filled.all t c d u chosen))
+pub settled_well : {x : Call} {n g : List ℕ} → Clear x.book.now x.sheet.now (tables_in x) (lent n g) → {big : Bool} → ((big ≡ true) ↔ BigCount (grammar_in x) (tables_in x)) → big ≡ false
+    → {nodes : List Node} → Choice x nodes (Ok (tt {0})) → {count settings : ℕ} → count ≡ length x.sheet.now → settings ≡ all_settings (grammar_in x) x.sheet.now
+    → {n' g' : List ℕ} {used : ℕ} → Filled x nodes n g n' g' used
+    → CallDue x.book.now x.sheet.now (tables_in x) (lent n g) (said (Ok (record { nodes = count; settings = settings; groups = used }))) (lent n' g')
+settled_well {x} {n} {g} clear tells small choice {count} {settings} en es {n'} {g'} {used} filled =
+    let t = tree_in x in
+    let (none, chosen) = choice.case t in
+    let counts = ap₂ (λ (a b : ℕ). a ∷ b ∷ used ∷ []) en es in
+    (nothing_applies clear (not_big tells small) t none, subst (Grouped (grammar_in x) x.sheet.now (tables_in x) (lent n g) (lent n' g')) (sym counts) (filled.all t chosen))

@@ -4,12 +4,13 @@ use Rattle.lists.specs.Refusals.{First}
 use Rattle.book.specs.Format.{kinds, grammar}
 use Rattle.sheet.specs.Reading.{all_settings}
 use Rattle.sheet.specs.Trees.{Fits}
+use Rattle.admission.specs.declared.Lengths.{Lengths}
 use Rattle.admission.specs.Refusals as admission
 use Rattle.numbering.specs.Walk.{Tables}
 use Rattle.numbering.specs.Promise.{Lent, Applies, Fault, turn}
 
 -- the lengths that are measured
-abbrev pub measures : Tables → Lent → admission.Lengths
+abbrev pub measures : Tables → Lent → Lengths
 measures T m = admission.lengths (length T.plausible_counts) (length T.feasible_counts) (length m.nodes) (length m.groups)
 
 -- none of the refusals before 25 applies, and what that says

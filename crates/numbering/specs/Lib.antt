@@ -6,7 +6,8 @@ pub mod Answer
 pub mod Places
 -- what its own functions promise each other: no promise of a public call cites these
 pub mod Visits
-pub mod KeptRanks
+pub mod Unrefused
+pub mod Nodes
 pub mod Parts
 pub mod Giving
 pub mod Admitting

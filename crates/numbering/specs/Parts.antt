@@ -1,27 +1,35 @@
 -- What the parts of the call promise each other on the way to the entries. No promise of the library cites this page.
-use Rattle.std.specs.Prelude.{◌≡◌, Bool, true, false, List, ℕ, zero, suc, ◌+◌, ◌-◌, ◌≤◌, ◌<◌, ltb, length, get_or}
+use Rattle.std.specs.Prelude.{◌≡◌, ◌⊎◌, Bool, true, false, Option, Some, None, Result, Ok, Err, List, ℕ, zero, suc, ◌+◌, ◌-◌, ◌≤◌, ◌<◌, ltb, length, get_or}
 use Rattle.lists.specs.Pick.{pick}
+use Rattle.refusals.specs.Table.{number_of}
+use Rattle.refusals.specs.declared.Refused.{Refused}
 use Rattle.chains.specs.Limits.{max_kids, max_nodes}
 use Rattle.chains.specs.Grammar.{Grammar}
 use Rattle.chains.specs.Tree.{Bush, size, Sub}
-use Rattle.book.specs.Format.{grammar, prods}
-use Rattle.book.specs.Reading.{Index}
-use Rattle.bookcheck.specs.Accepted.{Accepted}
-use Rattle.ranks.specs.Entries.{up_start, down_start}
+use Rattle.book.specs.Format.{grammar}
+use Rattle.ranks.specs.Entries.{up_start, down_start, none}
 use Rattle.ranks.specs.Reads.{child_rank_at}
+use Rattle.ranks.specs.declared.Plausible.{Plausible}
 use Rattle.numbering.specs.Walk.{Tables, tables}
 use Rattle.numbering.specs.Promise.{TreeOf, BadUp, BadRoot, BadDown, entry_at}
 use Rattle.numbering.specs.Visits.{rank_of, entry_in, visit}
-use Rattle.numbering.specs.KeptRanks.{room, plausible_ranks, feasible_ranks, OnlyFeasible}
-use Rattle.numbering.specs.declared.downward.DownNode.{DownNode}
-use Rattle.numbering.specs.declared.downward.DownNode.TheVariants as down
-use Rattle.numbering.specs.declared.upward.Reads.{Reads}
-use Rattle.numbering.specs.declared.upward.Reads.TheVariants.{All, Bad}
+use Rattle.numbering.specs.Nodes.{plausible_ranks, feasible_ranks, subtree_ends, down_entries, SameUpward, OnlyFeasible}
+use Rattle.numbering.specs.declared.call.Call.{Call}
+use Rattle.numbering.specs.declared.call.Tables as declared
+use Rattle.numbering.specs.declared.nodes.Node.{Node}
 
--- an accepted book, with the places of its entries
-pub record Indexed (b places : List ℕ) : Type 0 where
-  pub accepted : Accepted b
-  pub index : Index b places
+-- ── what a call goes by ──
+abbrev pub grammar_in : Call → Grammar
+grammar_in x = grammar x.book.now
+
+abbrev pub tables_of : declared.Tables → Tables
+tables_of t = tables t.plausible_counts.now t.feasible_counts.now t.up.now t.down.now
+
+abbrev pub tables_in : Call → Tables
+tables_in x = tables_of x.tables
+
+abbrev pub TreeIn : Call → Type 0
+TreeIn x = TreeOf (grammar_in x) x.sheet.now
 
 -- a sheet that is a tree of the book
 pub record Sheeted (b l : List ℕ) : Type 0 where
@@ -30,11 +38,20 @@ pub record Sheeted (b l : List ℕ) : Type 0 where
   pub few : length l ≤ max_nodes
 
 -- ── where the productions' entries begin ──
-pub record UpStarts (b c starts : List ℕ) : Type 0 where
-  pub each : (p : ℕ) → p < prods b → get_or starts p 0 ≡ up_start (grammar b) c p
+pub record Starts (x : Call) (S : ℕ → ℕ) (starts : List ℕ) : Type 0 where
+  pub each : (p : ℕ) → p < (grammar_in x).prods → get_or starts p 0 ≡ S p
 
-pub record DownStarts (b c d starts : List ℕ) : Type 0 where
-  pub each : (p : ℕ) → p < prods b → get_or starts p 0 ≡ down_start (grammar b) c d p
+abbrev pub up_start_in : Call → ℕ → ℕ
+up_start_in x = up_start (grammar_in x) x.tables.plausible_counts.now
+
+abbrev pub down_start_in : Call → ℕ → ℕ
+down_start_in x = down_start (grammar_in x) x.tables.plausible_counts.now x.tables.feasible_counts.now
+
+abbrev pub UpStarts : Call → List ℕ → Type 0
+UpStarts x = Starts x (up_start_in x)
+
+abbrev pub DownStarts : Call → List ℕ → Type 0
+DownStarts x = Starts x (down_start_in x)
 
 -- ── a node's children ──
 -- where child j of the node i stands: the first right after it, and each further one where the subtree of the one before it ends
@@ -67,58 +84,67 @@ Ranked G T f n k plausible = (i q : ℕ) (ds : Bush) → Sub f n i q ds → k �
 abbrev pub NoBadUp : Grammar → Tables → Bush → ℕ → Type 0
 NoBadUp G T f k = (i q : ℕ) (ds : Bush) → Sub f 0 i q ds → k ≤ i → BadUp G T q ds → ⊥
 
-abbrev pub UpIs : Grammar → Tables → Bush → List ℕ → List ℕ → Reads → Type 0
-UpIs G T f plausible ends All = NoBadUp G T f 0 × Ranked G T f 0 0 plausible × Ended f 0 0 ends
-UpIs G T f plausible ends (Bad i) = ((q : ℕ) × (ds : Bush) × Sub f 0 i q ds × BadUp G T q ds) × NoBadUp G T f (suc i)
+-- the read at a node of production p, of the up entry e: its own rank; none where it is bad
+abbrev pub UpNodeIs : Call → ℕ → ℕ → Option Plausible → Type 0
+UpNodeIs x p e (Some r) = (e < length x.tables.up.now) × (r.0 ≡ get_or x.tables.up.now e none)
+    × (r.0 < get_or x.tables.plausible_counts.now ((grammar_in x).left p) 0)
+UpNodeIs x p e None = (length x.tables.up.now ≤ e) ⊎ (get_or x.tables.plausible_counts.now ((grammar_in x).left p) 0 ≤ get_or x.tables.up.now e none)
 
-pub record UpReads (b l c u kept ends : List ℕ) (r : Reads) : Type 0 where
-  pub kept_long : length kept ≡ room
-  pub ends_long : length ends ≡ max_nodes
-  pub case : (t : TreeOf (grammar b) l) (d w : List ℕ) → UpIs (grammar b) (tables c d u w) t.tree (plausible_ranks kept) ends r
+-- a read that fails is answered with 25
+abbrev pub Is25 : Refused → Type 0
+Is25 r = number_of r.refusal ≡ 25
+
+abbrev pub UpIs : Grammar → Tables → Bush → List ℕ → List ℕ → Result (Unit {0}) Refused → Type 0
+UpIs G T f plausible ends (Ok u) = NoBadUp G T f 0 × Ranked G T f 0 0 plausible × Ended f 0 0 ends
+UpIs G T f plausible ends (Err r) = Is25 r × ((q : ℕ) × (ds : Bush) × Sub f 0 r.place q ds × BadUp G T q ds) × NoBadUp G T f (suc r.place)
+
+pub record UpReads (x : Call) (nodes : List Node) (r : Result (Unit {0}) Refused) : Type 0 where
+  pub case : (t : TreeIn x) → UpIs (grammar_in x) (tables_in x) t.tree (plausible_ranks nodes) (subtree_ends nodes) r
 
 -- ── downward ──
 -- whether each child of a node with production p has got its feasible rank from the entry e; F m is the rank that node m is to have
-abbrev pub HandedIs : Grammar → List ℕ → List ℕ → ℕ → ℕ → List ℕ → ℕ → List ℕ → List ℕ → Bool → Type 0
-HandedIs G d w e p ends i s s' true =
-    ((j : ℕ) → j < length (G.kids p) → child_rank_at w e j < get_or d (get_or (G.kids p) j 0) 0)
-    × ((F : ℕ → ℕ) → ((j : ℕ) → j < length (G.kids p) → F (child_at ends i j) ≡ child_rank_at w e j)
+abbrev pub HandedIs : Grammar → Tables → ℕ → ℕ → List ℕ → ℕ → List ℕ → List ℕ → Bool → Type 0
+HandedIs G T e p ends i s s' true =
+    ((j : ℕ) → j < length (G.kids p) → child_rank_at T.down e j < get_or T.feasible_counts (get_or (G.kids p) j 0) 0)
+    × ((F : ℕ → ℕ) → ((j : ℕ) → j < length (G.kids p) → F (child_at ends i j) ≡ child_rank_at T.down e j)
     → ((m : ℕ) → get_or s m 0 ≡ F m → get_or s' m 0 ≡ F m) × ((j : ℕ) → j < length (G.kids p) → get_or s' (child_at ends i j) 0 ≡ F (child_at ends i j)))
-HandedIs G d w e p ends i s s' false = (j : ℕ) × (j < length (G.kids p)) × (get_or d (get_or (G.kids p) j 0) 0 ≤ child_rank_at w e j)
+HandedIs G T e p ends i s s' false =
+    (j : ℕ) × (j < length (G.kids p)) × (get_or T.feasible_counts (get_or (G.kids p) j 0) 0 ≤ child_rank_at T.down e j)
 
-pub record HandedDown (b d w : List ℕ) (e p : ℕ) (ends : List ℕ) (i : ℕ) (kept kept' : List ℕ) (r : Bool) : Type 0 where
-  pub only : OnlyFeasible kept kept'
-  pub case : HandedIs (grammar b) d w e p ends i (feasible_ranks kept) (feasible_ranks kept') r
+pub record HandedDown (x : Call) (i p e : ℕ) (nodes nodes' : List Node) (r : Bool) : Type 0 where
+  pub only : OnlyFeasible nodes nodes'
+  pub case : HandedIs (grammar_in x) (tables_in x) e p (subtree_ends nodes) i (feasible_ranks nodes) (feasible_ranks nodes') r
 
 -- node m has the feasible rank that the walk gives it
 abbrev pub RightRank : Grammar → Tables → Bush → List ℕ → ℕ → Type 0
 RightRank G T f feasible m = get_or feasible m 0 ≡ (visit G T f m).feasible
 
 -- the read at node i
-abbrev pub DownNodeIs : Grammar → Tables → Bush → ℕ → ℕ → List ℕ → List ℕ → List ℕ → DownNode → Type 0
-DownNodeIs G T f i p ends s s' (down.Entry e) = (e ≡ entry_in G T (visit G T f i)) × (BadDown G T p (entry_in G T (visit G T f i)) → ⊥)
+abbrev pub DownNodeIs : Grammar → Tables → Bush → ℕ → ℕ → List ℕ → List ℕ → List ℕ → Option ℕ → Type 0
+DownNodeIs G T f i p ends s s' (Some e) = (e ≡ entry_in G T (visit G T f i)) × (BadDown G T p (entry_in G T (visit G T f i)) → ⊥)
     × ((m : ℕ) → RightRank G T f s m → RightRank G T f s' m)
     × ((j : ℕ) → j < length (G.kids p) → RightRank G T f s' (child_at ends i j))
-DownNodeIs G T f i p ends s s' down.Bad = BadDown G T p (entry_in G T (visit G T f i))
+DownNodeIs G T f i p ends s s' None = BadDown G T p (entry_in G T (visit G T f i))
 
-pub record DownNodeRead (b c d w ends : List ℕ) (i p : ℕ) (kept kept' : List ℕ) (r : DownNode) : Type 0 where
-  pub only : OnlyFeasible kept kept'
-  pub case : (l : List ℕ) (t : TreeOf (grammar b) l) (u : List ℕ) (ds : Bush) → Sub t.tree 0 i p ds → Ended t.tree 0 0 ends
-      → Ranked (grammar b) (tables c d u w) t.tree 0 0 (plausible_ranks kept) → RightRank (grammar b) (tables c d u w) t.tree (feasible_ranks kept) i
-      → DownNodeIs (grammar b) (tables c d u w) t.tree i p ends (feasible_ranks kept) (feasible_ranks kept') r
+pub record DownNodeRead (x : Call) (i p : ℕ) (nodes nodes' : List Node) (r : Option ℕ) : Type 0 where
+  pub only : OnlyFeasible nodes nodes'
+  pub case : (t : TreeIn x) (ds : Bush) → Sub t.tree 0 i p ds → Ended t.tree 0 0 (subtree_ends nodes)
+      → Ranked (grammar_in x) (tables_in x) t.tree 0 0 (plausible_ranks nodes) → RightRank (grammar_in x) (tables_in x) t.tree (feasible_ranks nodes) i
+      → DownNodeIs (grammar_in x) (tables_in x) t.tree i p (subtree_ends nodes) (feasible_ranks nodes) (feasible_ranks nodes') r
 
 abbrev pub NoBadDown : Grammar → Tables → Bush → ℕ → Type 0
 NoBadDown G T f k = (i q : ℕ) (ds : Bush) → Sub f 0 i q ds → i < k → BadDown G T q (entry_at G T f i) → ⊥
 
-abbrev pub DownIs : Grammar → Tables → Bush → List ℕ → List ℕ → Reads → Type 0
-DownIs G T f feasible entries All = NoBadDown G T f (size f)
+abbrev pub DownIs : Grammar → Tables → Bush → List ℕ → List ℕ → Result (Unit {0}) Refused → Type 0
+DownIs G T f feasible entries (Ok u) = NoBadDown G T f (size f)
     × ((i : ℕ) → i < size f → RightRank G T f feasible i) × ((i : ℕ) → i < size f → get_or entries i 0 ≡ entry_in G T (visit G T f i))
-DownIs G T f feasible entries (Bad i) = ((q : ℕ) × (ds : Bush) × Sub f 0 i q ds × BadDown G T q (entry_at G T f i)) × NoBadDown G T f i
+DownIs G T f feasible entries (Err r) = Is25 r × ((q : ℕ) × (ds : Bush) × Sub f 0 r.place q ds × BadDown G T q (entry_at G T f r.place)) × NoBadDown G T f r.place
 
-pub record DownReads (b l c d w ends kept kept' entries : List ℕ) (r : Reads) : Type 0 where
-  pub only : OnlyFeasible kept kept'
-  pub entries_long : length entries ≡ max_nodes
-  pub case : (t : TreeOf (grammar b) l) (u : List ℕ) → Ended t.tree 0 0 ends → Ranked (grammar b) (tables c d u w) t.tree 0 0 (plausible_ranks kept)
-      → RightRank (grammar b) (tables c d u w) t.tree (feasible_ranks kept) 0 → DownIs (grammar b) (tables c d u w) t.tree (feasible_ranks kept') entries r
+pub record DownReads (x : Call) (nodes nodes' : List Node) (r : Result (Unit {0}) Refused) : Type 0 where
+  pub upward : SameUpward nodes nodes'
+  pub case : (t : TreeIn x) → Ended t.tree 0 0 (subtree_ends nodes) → Ranked (grammar_in x) (tables_in x) t.tree 0 0 (plausible_ranks nodes)
+      → RightRank (grammar_in x) (tables_in x) t.tree (feasible_ranks nodes) 0
+      → DownIs (grammar_in x) (tables_in x) t.tree (feasible_ranks nodes') (down_entries nodes') r
 
 -- ── all reads ──
 -- a read that fails: its place, and its turn among the reads of n nodes
@@ -134,13 +160,13 @@ pub record Chosen (G : Grammar) (T : Tables) (f : Bush) (plausible ends feasible
   pub right : (i : ℕ) → i < size f → RightRank G T f feasible i
   pub entered : (i : ℕ) → i < size f → get_or entries i 0 ≡ entry_in G T (visit G T f i)
 
-abbrev pub ChoiceIs : Grammar → Tables → Bush → List ℕ → List ℕ → List ℕ → List ℕ → Reads → Type 0
-ChoiceIs G T f plausible ends feasible entries All = ((p t : ℕ) → Fails G T f (size f) p t → ⊥) × Chosen G T f plausible ends feasible entries
-ChoiceIs G T f plausible ends feasible entries (Bad p) =
-    (t : ℕ) × Fails G T f (size f) p t × ((p' t' : ℕ) → t' < t → Fails G T f (size f) p' t' → ⊥)
+abbrev pub ChosenIn : Call → Bush → List Node → Type 0
+ChosenIn x f nodes = Chosen (grammar_in x) (tables_in x) f (plausible_ranks nodes) (subtree_ends nodes) (feasible_ranks nodes) (down_entries nodes)
 
-pub record Choice (b l c d u w kept ends entries : List ℕ) (r : Reads) : Type 0 where
-  pub kept_long : length kept ≡ room
-  pub ends_long : length ends ≡ max_nodes
-  pub entries_long : length entries ≡ max_nodes
-  pub case : (t : TreeOf (grammar b) l) → ChoiceIs (grammar b) (tables c d u w) t.tree (plausible_ranks kept) ends (feasible_ranks kept) entries r
+abbrev pub ChoiceIs : Call → Bush → List Node → Result (Unit {0}) Refused → Type 0
+ChoiceIs x f nodes (Ok u) = ((p t : ℕ) → Fails (grammar_in x) (tables_in x) f (size f) p t → ⊥) × ChosenIn x f nodes
+ChoiceIs x f nodes (Err r) =
+    Is25 r × (t : ℕ) × Fails (grammar_in x) (tables_in x) f (size f) r.place t × ((p' t' : ℕ) → t' < t → Fails (grammar_in x) (tables_in x) f (size f) p' t' → ⊥)
+
+pub record Choice (x : Call) (nodes : List Node) (r : Result (Unit {0}) Refused) : Type 0 where
+  pub case : (t : TreeIn x) → ChoiceIs x t.tree nodes r

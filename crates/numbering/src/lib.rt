@@ -1,13 +1,13 @@
 // The sheet call: refusals 1 to 9 and 20 to 25, a rank of each kind and a down entry for every node, and a group number for every setting.
 #![tactic(auto)]
 
+mod call;
 mod choice;
-mod counts;
 mod downward;
-mod kept;
-mod kin;
 mod limits;
+mod nodes;
 mod numbers;
+mod overfull;
 mod settling;
 mod starts;
 mod telling;
@@ -17,21 +17,17 @@ ghost use Rattle.numbering.specs.Walk.{tables};
 ghost use Rattle.numbering.specs.Promise.{lent, CallDue};
 ghost use Rattle.numbering.specs.Answer.{said};
 
-use admission::Admission;
+use admission::Lengths;
+use call::Tables;
+use refusals::Refused;
 use settling::settle;
 
-// What the sheet call answers: the numbers of nodes, settings and groups, or the first refusal that applies.
-#[derive(Clone, Copy)]
-pub enum Grouping {
-    Accepted {
-        nodes: u16,
-        settings: u16,
-        groups: u16,
-    },
-    Refused {
-        number: u8,
-        place: u16,
-    },
+// What an accepted sheet comes to: the numbers of nodes, settings and groups.
+#[derive(Clone, Copy, Debug, PartialEq, Eq)]
+pub struct Counts {
+    pub nodes: u16,
+    pub settings: u16,
+    pub groups: u16,
 }
 
 // Refusals 1 to 9 and 20 to 25; or each node's ranks and down entry, three places a node, and each setting's group number, all by anyone's tables.
@@ -45,33 +41,22 @@ pub fn group_sheet(
     down: &[u8],
     nodes: &mut [u64],
     groups: &mut [u16],
-) -> Grouping
+) -> Result<Counts, Refused>
     ensures { CallDue book.now sheet.now (tables plausible_counts.now feasible_counts.now up.now down.now)
         (lent nodes.old groups.old) (said result) (lent nodes.new groups.new) }
 {
-    match admission::admit(
-        book,
-        sheet,
-        plausible_counts.len(),
-        feasible_counts.len(),
-        nodes.len(),
-        groups.len(),
-    ) {
-        Admission::Refused { number, place } => Grouping::Refused { number, place },
-        Admission::Admitted {
-            nodes: count,
-            settings,
-        } => settle(
-            book,
-            sheet,
-            plausible_counts,
-            feasible_counts,
-            up,
-            down,
-            count,
-            settings,
-            nodes,
-            groups,
-        ),
-    }
+    let lengths = Lengths {
+        plausible_counts: plausible_counts.len(),
+        feasible_counts: feasible_counts.len(),
+        nodes: nodes.len(),
+        groups: groups.len(),
+    };
+    let counts = admission::admit(book, sheet, lengths)?;
+    let tables = Tables {
+        plausible_counts,
+        feasible_counts,
+        up,
+        down,
+    };
+    settle(book, sheet, tables, counts, nodes, groups)
 }

@@ -1,62 +1,57 @@
 // Where each production's entries begin in the two tables, worked out once for a call.
-ghost use Rattle.std.specs.Prelude.{◌≡◌, ◌^◌, ◌≤◌, ◌<◌, length};
+ghost use Rattle.std.specs.Prelude.{◌≡◌, ℕ, suc, ◌+◌, ◌^◌, ◌≤◌, ◌<◌, get_or};
 ghost use Rattle.chains.specs.Limits.{max_kids};
-ghost use Rattle.book.specs.Format.{kinds};
+ghost use Rattle.book.specs.Format.{prods, grammar};
 ghost use Rattle.ranks.specs.Entries.{choices, byte_values};
-ghost use Rattle.ranks.specs.Reads as reads;
-ghost use Rattle.numbering.specs.Parts.{Indexed, UpStarts, DownStarts};
+ghost use Rattle.numbering.specs.Parts.{Starts, UpStarts, DownStarts};
 
-use super::kin::kid_counts;
+use super::call::Call;
 use super::limits::PRODUCTIONS;
-use ranks::KIDS;
 
-// The number of choices for children of these counts.
-fn choices_of(counts: [u8; KIDS]) -> u64
-    ensures { (result ≡ choices counts reads.places) × (result ≤ byte_values ^ max_kids) }
+// The number of choices for the children of production p.
+fn choices_of(call: &Call, p: u8) -> u64
+    requires { p < prods call.now.book.now }
+    ensures is { result ≡ choices call.now.tables.plausible_counts.now ((grammar call.now.book.now).kids p) }
+    ensures small { result ≤ byte_values ^ max_kids }
 {
     let mut product: u64 = 1;
-    let mut j = KIDS;
-    while 0 < j {
-        j -= 1;
-        product = counts[j] as u64 * product;
+    for &kind in call.kids(p) {
+        let count = call.tables.plausible_counts[kind as usize];
+        product *= count as u64;
     }
     product
 }
 
-pub fn up_starts(book: &[u8], places: &[usize; PRODUCTIONS], counts: &[u8]) -> [u64; PRODUCTIONS]
-    requires { Indexed book.now places.now × (kinds book.now ≤ length counts.now) }
-    ensures { UpStarts book.now counts.now result }
+// The productions' entries follow one another, and production p has so many.
+fn starts<F: Fn(u8) -> u64>(call: &Call, entries: F) -> [u64; PRODUCTIONS]
+    requires asked { (p : ℕ) → p < prods call.now.book.now → F.pre entries p }
+    requires small { (p n : ℕ) → p < prods call.now.book.now → F.post entries p n → n ≤ byte_values ^ suc max_kids }
+    ensures { (S : ℕ → ℕ) → ((p n : ℕ) → p < prods call.now.book.now → F.post entries p n → S (suc p) ≡ S p + n)
+        → S 0 ≡ 0 → Starts call.now S result }
 {
-    let n = book::productions(book) as usize;
-    let mut starts = [0u64; PRODUCTIONS];
-    let mut next: u64 = 0;
-    let mut p = 0;
-    while p < n {
-        starts[p] = next;
-        next += choices_of(kid_counts(book, places, p, counts));
-        p += 1;
+    let count = book::productions(call.book) as u8;
+    let mut starts = [0; PRODUCTIONS];
+    let mut next = 0;
+    for p in 0..count {
+        starts[p as usize] = next;
+        next += entries(p);
     }
     starts
 }
 
-pub fn down_starts(
-    book: &[u8],
-    places: &[usize; PRODUCTIONS],
-    counts: &[u8],
-    feasible_counts: &[u8],
-) -> [u64; PRODUCTIONS]
-    requires { Indexed book.now places.now × (kinds book.now ≤ length counts.now) × (kinds book.now ≤ length feasible_counts.now) }
-    ensures { DownStarts book.now counts.now feasible_counts.now result }
+// In the up table a production has an entry for each choice.
+pub fn up_starts(call: &Call) -> [u64; PRODUCTIONS]
+    ensures { UpStarts call.now result }
 {
-    let n = book::productions(book) as usize;
-    let mut starts = [0u64; PRODUCTIONS];
-    let mut next: u64 = 0;
-    let mut p = 0;
-    while p < n {
-        starts[p] = next;
-        let left = book::left(book, places[p]) as usize;
-        next += feasible_counts[left] as u64 * choices_of(kid_counts(book, places, p, counts));
-        p += 1;
-    }
-    starts
+    starts(call, |p| choices_of(call, p))
+}
+
+// In the down table it has one for each feasible rank of its left kind, and each choice.
+pub fn down_starts(call: &Call) -> [u64; PRODUCTIONS]
+    ensures { DownStarts call.now result }
+{
+    starts(call, |p| {
+        let ranks = call.tables.feasible_counts[call.left(p) as usize];
+        ranks as u64 * choices_of(call, p)
+    })
 }

@@ -1,58 +1,40 @@
 // The upward reads: each node's plausible rank by its children's, from the last node to the first, and where its subtree ends.
-ghost use Rattle.std.specs.Prelude.{◌≡◌, ◌≤◌, length};
-ghost use Rattle.chains.specs.Limits.{max_nodes};
-ghost use Rattle.book.specs.Format.{kinds};
-ghost use Rattle.numbering.specs.KeptRanks.{room};
-ghost use Rattle.numbering.specs.Parts.{Indexed, Sheeted, UpReads};
+ghost use Rattle.std.specs.Prelude.{◌<◌};
+ghost use Rattle.book.specs.Format.{prods};
+ghost use Rattle.ranks.specs.Reads.{counts_of, numbers, up_number};
+ghost use Rattle.numbering.specs.Parts.{UpNodeIs, UpReads};
 
-use super::kept::{RANKS, keep_plausible};
-use super::kin::{kid_counts, kin_of};
-use super::limits::{NODES, PRODUCTIONS};
+use super::call::Call;
+use super::limits::NODES;
+use super::nodes::{Node, kin_of};
 use super::starts::up_starts;
-use ranks::UpRead;
+use ranks::{Chosen, KIDS, Plausible};
+use refusals::{Refusal, Refused};
 
-// Whether every read is good, or the node where the first bad one is.
-#[derive(Clone, Copy)]
-pub enum Reads {
-    All,
-    Bad(u16),
+// The read at a node of production p, whose entries begin at start, by its children: its own rank.
+// None where the entry is past its slice, or the rank not below its count.
+fn read_node(call: &Call, p: u8, start: u64, children: [Chosen; KIDS]) -> Option<Plausible>
+    requires { p < prods call.now.book.now }
+    ensures { UpNodeIs call.now p (up_number start (counts_of children) (numbers children)) result }
+{
+    let count = call.tables.plausible_counts[call.left(p) as usize];
+    ranks::read_up(call.tables.up, start, children).filter(|rank| rank.0 < count)
 }
 
-// All of them; the first that is bad, from the last node on, is the answer: an entry past its slice, or a rank not below its count.
-pub fn read_upward(
-    book: &[u8],
-    places: &[usize; PRODUCTIONS],
-    sheet: &[u8],
-    counts: &[u8],
-    up: &[u8],
-    kept: &mut [u8; RANKS],
-    ends: &mut [u16; NODES],
-) -> Reads
-    requires { Indexed book.now places.now × Sheeted book.now sheet.now × (kinds book.now ≤ length counts.now)
-        × (length kept.old ≡ room) × (length ends.old ≡ max_nodes) }
-    ensures { UpReads book.now sheet.now counts.now up.now kept.new ends.new result }
+// All of them; the first that is bad, from the last node on, is the answer.
+pub fn read_upward(call: &Call, nodes: &mut [Node; NODES]) -> Result<(), Refused>
+    ensures { UpReads call.now nodes.new result }
 {
-    let starts = up_starts(book, places, counts);
-    let mut i = sheet.len();
-    while 0 < i {
-        i -= 1;
-        let p = sheet[i] as usize;
-        let at = places[p];
-        let kids = book::arity(book, at);
-        let kin = kin_of(kept, ends, i, kids);
-        let ranks = kin.ranks;
-        match ranks::read_up(up, starts[p], kid_counts(book, places, p, counts), ranks) {
-            UpRead::Past => {
-                return Reads::Bad(i as u16);
-            }
-            UpRead::Rank(rank) => {
-                let left = book::left(book, at) as usize;
-                if !keep_plausible(kept, i, rank, counts[left]) {
-                    return Reads::Bad(i as u16);
-                }
-                ends[i] = kin.end as u16;
-            }
-        }
+    let starts = up_starts(call);
+    for i in (0..call.sheet.len()).rev() {
+        let p = call.sheet[i];
+        let kin = kin_of(call, nodes, i, p);
+        let rank = read_node(call, p, starts[p as usize], kin.children).ok_or(Refusal::BadTables.at(
+            i as u16,
+        ))?;
+        let node = &mut nodes[i];
+        node.plausible = rank;
+        node.end = kin.end as u16;
     }
-    Reads::All
+    Ok(())
 }

@@ -1,63 +1,43 @@
-use mathlib.Core.Path.{refl}
-use native.Mathlib.Omega.{arith}
-use Rattle.numbering.proofs.Words.{less_left, place_after, place_eight, below}
-use Rattle.numbering.proofs.Trees.{node_at}
+use Rattle.std.proofs.Common.{arith, refl, ◌∙◌}
+use Rattle.std.proofs.lemmas.Result.{err_from_is_err_and}
+use Rattle.numbering.proofs.Passed.{ok_or_some, ok_or_none}
+use Rattle.numbering.proofs.Calls.{tree_in, known_in, few_prods, few_nodes}
 use Rattle.numbering.proofs.DownReads.{going_none, going_children, going_bad, going_turn, going_done}
 use Rattle.numbering.proofs.downward.read_downward.Goals as goal
 
-pub down_starts-starts-requires : goal.down_starts-starts-requires
-down_starts-starts-requires c =
-    let pre = c.requires in
-    (pre.0, pre.2, pre.3)
-
 pub loop-i-init : goal.loop-i-init
-loop-i-init c =
-    let pre = c.requires in
-    going_none pre.1.few pre.5 pre.6
-
-pub bounds-sheet-i : goal.bounds-sheet-i
-bounds-sheet-i c = c.loop-i-test.true
-
-pub overflow_cast-p : goal.overflow_cast-p
-overflow_cast-p c = omega (arith, c.type_inv.sheet c.loop-i.i)
-
-pub offset_bounds-starts-p : goal.offset_bounds-starts-p
-offset_bounds-starts-p c = omega (arith, c.type_inv.sheet c.loop-i.i)
+loop-i-init c = going_none c.told-nodes
 
 pub bounds-starts-p : goal.bounds-starts-p
-bounds-starts-p c =
-    let pre = c.requires in
-    omega (arith, (node_at pre.1.tree_of c.loop-i.i c.loop-i-test.true).known, pre.0.accepted.few_prods)
+bounds-starts-p c = few_prods c.args.call.now (known_in c.args.call.now _ c.loop-i-test.true)
 
-pub read_node-requires : goal.read_node-requires
-read_node-requires c =
-    let pre = c.requires in
-    let g = c.loop-i.invariant in
-    let t = pre.1.tree_of in
-    let more = c.loop-i-test.true in
-    let known = (node_at t c.loop-i.i more).known in
-    (pre.0, known, pre.2, pre.3, c.down_starts-starts.ensures.each _ known, pre.4, g.kept_long, going_children g t (pre.7 t) pre.0.accepted more _ refl)
+pub read_node-requires-clause-known : goal.read_node-requires-clause-known
+read_node-requires-clause-known c = known_in c.args.call.now _ c.loop-i-test.true
 
-pub overflow_cast-result : goal.overflow_cast-result
-overflow_cast-result c = omega (arith, c.loop-i.invariant.few)
+pub read_node-requires-clause-begins : goal.read_node-requires-clause-begins
+read_node-requires-clause-begins c = c.down_starts-starts.ensures.each _ (known_in c.args.call.now _ c.loop-i-test.true)
 
-pub returns-in-Bad : goal.returns-in-Bad
-returns-in-Bad c = going_bad c.loop-i.invariant c.loop-i-test.true refl c.read_node.ensures c.in-Bad.is
+pub read_node-requires-clause-children : goal.read_node-requires-clause-children
+read_node-requires-clause-children c =
+    let t = tree_in c.args.call.now in
+    going_children c.loop-i.invariant t (c.requires t) c.loop-i-test.true
 
-pub offset_bounds-entries-i : goal.offset_bounds-entries-i
-offset_bounds-entries-i c = place_eight (below c.loop-i-test.true c.loop-i.invariant.few)
+pub overflow_cast-i : goal.overflow_cast-i
+overflow_cast-i c = omega (arith, few_nodes c.args.call.now)
 
-pub bounds-entries-i : goal.bounds-entries-i
-bounds-entries-i c = below c.loop-i-test.true c.loop-i.invariant.few
+pub returns-in_err-entry : goal.returns-in_err-entry
+returns-in_err-entry c =
+    let p = err_from_is_err_and c.from_residual.result c.from_residual.ensures.1 in
+    let f = ok_or_none c.read_node.result c.at.result c.in_err-entry.ensures.value in
+    rw p.1 (going_bad c.loop-i.invariant c.loop-i-test.true c.read_node.ensures f.0 _ (p.2 ∙ f.1 ∙ c.at.ensures))
 
-pub overflow_add-i : goal.overflow_add-i
-overflow_add-i c = place_after (below c.loop-i-test.true c.loop-i.invariant.few)
-
-pub loop-i-smaller : goal.loop-i-smaller
-loop-i-smaller c = less_left c.loop-i-test.true
+pub bounds-nodes-i : goal.bounds-nodes-i
+bounds-nodes-i c = omega (arith, few_nodes c.args.call.now)
 
 pub loop-i-preserved : goal.loop-i-preserved
-loop-i-preserved c = going_turn c.loop-i.invariant c.loop-i-test.true refl c.read_node.ensures c.in-Entry.is refl
+loop-i-preserved c =
+    let found = ok_or_some c.read_node.result c.at.result c.in_ok-entry.ensures.value in
+    going_turn c.loop-i.invariant c.loop-i-test.true c.read_node.ensures found _ refl refl refl refl c.read_node.array_long
 
 pub returns : goal.returns
 returns c = going_done c.loop-i.invariant c.loop-i-test.false

@@ -1,50 +1,26 @@
 -- Each exit has its own law.
-use mathlib.Core.Path.{refl}
-use native.Mathlib.Omega.{arith}
-use Rattle.numbering.proofs.Due.{sheeted}
+use Rattle.std.proofs.lemmas.Result.{err_from_is_err_and}
 use Rattle.numbering.proofs.Filling.{filled}
-use Rattle.numbering.proofs.Settled.{clear_book, clear_index, settled_big, settled_bad, settled_walkable, settled_well}
+use Rattle.numbering.proofs.Settled.{unrefused, settled_big, settled_bad, settled_walkable, settled_well}
 use Rattle.numbering.proofs.settling.settle.Goals as goal
 
-pub too_many-requires : goal.too_many-requires
-too_many-requires c =
-    let clear = c.requires.0 in
-    (clear_book clear, clear.plausible_counts, clear.feasible_counts)
+pub invariant_of-call : goal.invariant_of-call
+invariant_of-call c =
+    let clear = c.requires.clear in
+    record { unrefused = unrefused clear; indexed = c.index.ensures; plausible_counted = clear.plausible_counts; feasible_counted = clear.feasible_counts }
 
 pub returns-then-too_many : goal.returns-then-too_many
-returns-then-too_many c = settled_big c.requires.0 c.too_many.ensures c.if-too_many.true refl
+returns-then-too_many c = settled_big c.requires.clear c.too_many.ensures c.if-too_many.true _ c.at.ensures
 
-pub index-places-requires : goal.index-places-requires
-index-places-requires c = tt
+pub returns-in_err-choose : goal.returns-in_err-choose
+returns-in_err-choose c =
+    let p = err_from_is_err_and c.from_residual.result c.from_residual.ensures.1 in
+    rw (p.1, p.2) (settled_bad c.requires.clear c.too_many.ensures c.if-too_many.false c.in_err-choose.ensures)
 
-pub choose-requires : goal.choose-requires
-choose-requires c =
-    let clear = c.requires.0 in
-    (clear_index clear c.index-places.ensures, sheeted clear.fits, clear.plausible_counts, clear.feasible_counts, refl, refl, refl)
+pub number_all-used-requires-clause-walkable : goal.number_all-used-requires-clause-walkable
+number_all-used-requires-clause-walkable c = settled_walkable c.in_ok-choose.ensures
 
-pub tell-requires : goal.tell-requires
-tell-requires c =
-    let clear = c.requires.0 in
-    let choice = c.choose.ensures in
-    (omega (arith, (sheeted clear.fits).few), omega (arith, clear.nodes), choice.kept_long, choice.entries_long)
-
-pub number_all-used-requires : goal.number_all-used-requires
-number_all-used-requires c =
-    let clear = c.requires.0 in
-    let choice = c.choose.ensures in (
-      clear_index clear c.index-places.ensures,
-      sheeted clear.fits,
-      settled_walkable clear c.too_many.ensures c.if-too_many.false choice c.in-All.is,
-      clear.groups,
-      choice.ends_long,
-      choice.entries_long,
-    )
-
-pub returns-in-Bad : goal.returns-in-Bad
-returns-in-Bad c = settled_bad c.requires.0 c.too_many.ensures c.if-too_many.false c.choose.ensures c.in-Bad.is refl
-
-pub returns-in-All : goal.returns-in-All
-returns-in-All c =
-    let pre = c.requires in
-    let written = filled c.tell.ensures c.number_all-used.ensures in
-    settled_well pre.0 c.too_many.ensures c.if-too_many.false c.choose.ensures c.in-All.is pre.1 pre.2 written refl
+pub returns : goal.returns
+returns c =
+    let written = filled c.choose.array_long c.tell.ensures c.number_all-used.ensures in
+    settled_well c.requires.clear c.too_many.ensures c.if-too_many.false c.in_ok-choose.ensures c.requires.nodes c.requires.settings written
