@@ -1,4 +1,3 @@
-pub mod Cutting
 pub mod Adding
 pub mod Printing
 pub mod Measuring

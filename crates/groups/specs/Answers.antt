@@ -1,20 +1,12 @@
 -- What the program answers: the text that is due for an input.
-use Rattle.std.specs.Prelude.{ℕ, ◌+◌, ◌≡◌, List, drop}
-use Rattle.lists.specs.Part.{part}
+use Rattle.std.specs.Prelude.{ℕ, ◌≡◌, List}
 use Rattle.lists.specs.Refusals.{Said, accepted, refused}
 use Rattle.tables.specs.Promise as tables
 use Rattle.numbering.specs.Walk.{Tables, tables}
 use Rattle.numbering.specs.Promise as numbering
 use Rattle.groups.specs.Room.{build_room, sheet_room}
-use Rattle.groups.specs.Input.{sheet_length, Thirty}
+use Rattle.groups.specs.Input.{sheet_of, book_of, Thirty}
 use Rattle.groups.specs.Printed.{refusal, printed}
-
--- the sheet and the book of an input
-abbrev pub sheet_of : List ℕ → List ℕ
-sheet_of input = part 2 (sheet_length input) input
-
-abbrev pub book_of : List ℕ → List ℕ
-book_of input = drop (2 + sheet_length input) input
 
 -- the tables that a build left
 abbrev pub tables_of : tables.Lent → Tables

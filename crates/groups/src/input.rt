@@ -1,6 +1,6 @@
 // The input taken apart: where the sheet ends and the book begins.
-ghost use Rattle.std.specs.Prelude.{◌<◌, ◌≡◌};
-ghost use Rattle.groups.specs.Input.{Cuts};
+ghost use Rattle.std.specs.Prelude.{MatchOption};
+ghost use Rattle.groups.specs.Input.{Thirty, Cut};
 
 use book::limits::{MAX_CHILDREN, MAX_KINDS, MAX_PRODUCTIONS, TRAILER};
 use sheet::limits::MAX_NODES;
@@ -13,31 +13,13 @@ const MOST_BOOK: usize = 2 * MAX_KINDS as usize
 // The largest input: two bytes of length, a sheet and a book.
 pub const MOST: usize = 2 + MAX_NODES + MOST_BOOK;
 
-#[derive(Clone, Copy)]
-pub enum Parts {
-    Sheet { end: usize },
-    Refused,
-}
-
-fn wide(x: u8) -> usize
-    ensures { (result ≡ x) × (result < 256) }
-{
-    x as usize
-}
-
-// The sheet stands from byte 2 to the end that its length gives; the book is what follows.
-pub fn cut(bytes: &[u8]) -> Parts
-    ensures { Cuts bytes.now result }
+// The sheet, which is as long as its length says, and the book, which is what follows.
+pub fn cut(bytes: &[u8]) -> Option<(&[u8], &[u8])>
+    ensures { MatchOption result (Thirty bytes.now) (λ p. Cut bytes.now p.0.now p.1.now) }
 {
     if MOST < bytes.len() {
-        return Parts::Refused;
+        return None;
     }
-    if bytes.len() < 2 {
-        return Parts::Refused;
-    }
-    let end = 2 + wide(bytes[0]) + 256 * wide(bytes[1]);
-    if bytes.len() < end {
-        return Parts::Refused;
-    }
-    Parts::Sheet { end }
+    let (length, rest) = bytes.split_first_chunk()?;
+    rest.split_at_checked(u16::from_le_bytes(*length).into())
 }

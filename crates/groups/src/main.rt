@@ -5,50 +5,49 @@ mod input;
 mod print;
 mod room;
 
-ghost use Rattle.std.specs.Prelude.{◌*◌, ◌≤◌, ◌≡◌, length, take};
+ghost use Rattle.std.specs.Prelude.{◌≡◌, ◌*◌, length};
 ghost use Rattle.ranks.specs.Entries.{entry_bytes};
 ghost use Rattle.numbering.specs.Walk.{tables};
 ghost use Rattle.groups.specs.Room.{down_room};
-ghost use Rattle.groups.specs.Adding.{most_text};
 ghost use Rattle.groups.specs.Answers.{Answers, BookText, SheetText};
+ghost use Rattle.groups.specs.Adding.{PrintedOrRefused};
 
-use input::Parts;
-use numbering::Grouping;
-use tables::Built;
+use print::Out;
+use refusals::{Refusal, Refused};
 
 // Only the reading before the answer and the writing after it no contract can speak of.
 fn main() {
     // A byte more than is allowed, so that too much shows.
-    let mut bytes = [0u8; input::MOST + 1];
+    let mut bytes = [0; input::MOST + 1];
     let n = io::read_full(text::STDIN, &mut bytes);
-    let mut out = [0u8; room::TEXT];
-    let held = answer(&bytes[..n], &mut out);
-    text::flush(text::STDOUT, &out, held);
+    let mut out = Out::new(text::STDOUT);
+    answer(&bytes[..n], &mut out);
+    out.flush();
 }
 
-// The text that is due for these bytes, at the front of the buffer.
-fn answer(bytes: &[u8], out: &mut [u8]) -> usize
-    requires { most_text ≤ length out.old }
-    ensures { (result ≤ length out.new) × Answers bytes.now (take result out.new) }
+// The text that is due for these bytes, whatever was held.
+fn answer(bytes: &[u8], out: &mut Out)
+    ensures { Answers bytes.now out.new }
 {
-    match input::cut(bytes) {
-        Parts::Refused => print::refused(out, 30, 0),
-        Parts::Sheet { end } => build(&bytes[2..end], &bytes[end..], out),
+    let Some((sheet, book)) = input::cut(bytes) else {
+        return print::refused(out, Refusal::BadInput.at(0));
+    };
+    if let Err(refused) = build(book, sheet, out) {
+        print::refused(out, refused);
     }
 }
 
-// The build fills the tables that the sheet call then reads.
-fn build(sheet: &[u8], book: &[u8], out: &mut [u8]) -> usize
-    requires { most_text ≤ length out.old }
-    ensures { (result ≤ length out.new) × BookText book.now sheet.now (take result out.new) }
+// The build fills the tables that the sheet call then reads. A refusal is not yet printed.
+fn build(book: &[u8], sheet: &[u8], out: &mut Out) -> Result<(), Refused>
+    ensures { PrintedOrRefused (BookText book.now sheet.now) result out.new }
 {
-    let mut plausible = [0u32; room::SET_PLACES];
-    let mut plausible_counts = [0u8; room::KINDS];
-    let mut feasible = [0u32; room::SET_PLACES];
-    let mut feasible_counts = [0u8; room::KINDS];
-    let mut up = [0u8; room::UP_ENTRIES];
-    let mut down = [0u8; room::DOWN_BYTES];
-    match tables::build(
+    let mut plausible = [0; room::SET_PLACES];
+    let mut plausible_counts = [0; room::KINDS];
+    let mut feasible = [0; room::SET_PLACES];
+    let mut feasible_counts = [0; room::KINDS];
+    let mut up = [0; room::UP_ENTRIES];
+    let mut down = [0; room::DOWN_BYTES];
+    tables::build(
         book,
         &mut plausible,
         &mut plausible_counts,
@@ -56,18 +55,16 @@ fn build(sheet: &[u8], book: &[u8], out: &mut [u8]) -> usize
         &mut feasible_counts,
         &mut up,
         &mut down,
-    ) {
-        Built::Refused { number, place } => print::refused(out, number, place),
-        Built::Accepted { up: _, down: _ } => group(
-            book,
-            sheet,
-            &plausible_counts,
-            &feasible_counts,
-            &up,
-            &down,
-            out,
-        ),
-    }
+    )?;
+    group(
+        book,
+        sheet,
+        &plausible_counts,
+        &feasible_counts,
+        &up,
+        &down,
+        out,
+    )
 }
 
 fn group(
@@ -77,15 +74,16 @@ fn group(
     feasible_counts: &[u8],
     up: &[u8],
     down: &[u8],
-    out: &mut [u8],
-) -> usize
-    requires { (most_text ≤ length out.old) × (length down.now ≡ entry_bytes * down_room) }
-    ensures { (result ≤ length out.new) × SheetText book.now sheet.now
-        (tables plausible_counts.now feasible_counts.now up.now down.now) (take result out.new) }
+    out: &mut Out,
+) -> Result<(), Refused>
+    requires { length down.now ≡ entry_bytes * down_room }
+    ensures { PrintedOrRefused
+        (SheetText book.now sheet.now (tables plausible_counts.now feasible_counts.now up.now down.now))
+        result out.new }
 {
-    let mut nodes = [0u64; room::NODE_PLACES];
-    let mut groups = [0u16; room::GROUP_PLACES];
-    match numbering::group_sheet(
+    let mut nodes = [0; room::NODE_PLACES];
+    let mut groups = [0; room::GROUP_PLACES];
+    let counts = numbering::group_sheet(
         book,
         sheet,
         plausible_counts,
@@ -94,12 +92,7 @@ fn group(
         down,
         &mut nodes,
         &mut groups,
-    ) {
-        Grouping::Refused { number, place } => print::refused(out, number, place),
-        Grouping::Accepted {
-            nodes: n,
-            settings,
-            groups: g,
-        } => print::accepted(out, book, sheet, &nodes, &groups, n, settings, g),
-    }
+    )?;
+    print::accepted(out, book, sheet, counts, &nodes, &groups);
+    Ok(())
 }

@@ -15,11 +15,11 @@ abbrev pub eight : List ℕ → ℕ → ℕ
 eight s at = four s at + 4294967296 * four s (at + 4)
 
 -- The first n elements of a list are the numbers of so many bytes each that stand in s, the others as they came.
-pub record Copied (number : List ℕ → ℕ → ℕ) (width : ℕ) (s l : List ℕ) (n : ℕ) (l' : List ℕ) : Type 0 where
-  pub taken : (k : ℕ) → k < n → get_or l' k 0 ≡ number s (width * k)
-  pub kept : (k : ℕ) → n ≤ k → get_or l' k 0 ≡ get_or l k 0
+pub record Copied {A : Type 0} (number : List ℕ → ℕ → A) (width : ℕ) (s : List ℕ) (l : List A) (n : ℕ) (l' : List A) : Type 0 where
+  pub taken : (k : ℕ) → k < n → (d : A) → get_or l' k d ≡ number s (width * k)
+  pub kept : (k : ℕ) → n ≤ k → (d : A) → get_or l' k d ≡ get_or l k d
   pub long : length l' ≡ length l
 
 -- as many as are there and have room
-abbrev pub many : ℕ → List ℕ → List ℕ → ℕ
+abbrev pub many : {A : Type 0} → ℕ → List ℕ → List A → ℕ
 many width s l = min (length s / width) (length l)

@@ -1,82 +1,54 @@
-// The calls by their numbers. Each puts its answer into the buffer and answers how much is held.
-use crate::numbers::eight;
-use crate::request::{argument, bytes, ends, exactly, opening};
+// The calls by their numbers. Each prints its answer, or finds the request malformed.
+use crate::print::Out;
+use crate::request::{argument, ends, exactly};
 use crate::{build, group, print, room};
-use bookcheck::Checked;
-use sheet::SheetChecked;
 
-pub fn reply(request: &[u8], out: &mut [u8]) -> usize {
-    if request.len() == 0 {
-        return print::malformed(out);
-    }
-    match request[0] {
-        1 => check_book(request, out),
-        2 => check_sheet(request, out),
-        3 => build::build(request, out),
-        4 => group::group_sheet(request, out),
-        5 => block(request, out),
-        _ => print::malformed(out),
+pub fn reply(request: &[u8], out: &mut Out) {
+    if called(request, out).is_none() {
+        print::malformed(out);
     }
 }
 
-fn check_book(request: &[u8], out: &mut [u8]) -> usize {
-    let book = argument(request, opening(), 1, room::BOOK);
-    if !ends(request, book) {
-        return print::malformed(out);
-    }
-    match bookcheck::check_book(bytes(request, book)) {
-        Checked::Accepted { kinds, productions } => print::pair(
-            out,
-            kinds as u64,
-            productions as u64,
-        ),
-        Checked::Refused { number, place } => print::refused(out, number, place),
+fn called(request: &[u8], out: &mut Out) -> Option<()> {
+    let (&call, arguments) = request.split_first()?;
+    match call {
+        1 => check_book(arguments, out),
+        2 => check_sheet(arguments, out),
+        3 => build::build(arguments, out),
+        4 => group::group_sheet(arguments, out),
+        5 => block(arguments, out),
+        _ => None,
     }
 }
 
-fn check_sheet(request: &[u8], out: &mut [u8]) -> usize {
-    let book = argument(request, opening(), 1, room::BOOK);
-    let sheet = argument(request, book, 1, room::SHEET);
-    if !ends(request, sheet) {
-        return print::malformed(out);
-    }
-    match sheet::check_sheet(bytes(request, book), bytes(request, sheet)) {
-        SheetChecked::Accepted { nodes, settings } => print::pair(
-            out,
-            nodes as u64,
-            settings as u64,
-        ),
-        SheetChecked::Refused { number, place } => print::refused(out, number, place),
-    }
+fn check_book(arguments: &[u8], out: &mut Out) -> Option<()> {
+    let (book, left) = argument(arguments, 1, room::BOOK)?;
+    ends(left)?;
+    let answer = bookcheck::check_book(book);
+    print::answer(out, answer.map(|counts| [counts.kinds, counts.productions]));
+    Some(())
 }
 
-fn block(request: &[u8], out: &mut [u8]) -> usize {
-    let down = argument(request, opening(), 1, room::DOWN);
-    let entry = exactly(argument(request, down, 8, 1), 8);
-    let label = exactly(argument(request, entry, 1, 1), 1);
-    if !ends(request, label) {
-        return print::malformed(out);
-    }
-    block_of(
-        bytes(request, down),
-        bytes(request, entry),
-        bytes(request, label),
-        out,
-    )
+fn check_sheet(arguments: &[u8], out: &mut Out) -> Option<()> {
+    let (book, left) = argument(arguments, 1, room::BOOK)?;
+    let (sheet, left) = argument(left, 1, room::SHEET)?;
+    ends(left)?;
+    let answer = sheet::check_sheet(book, sheet);
+    print::answer(out, answer.map(|counts| [counts.nodes, counts.settings]));
+    Some(())
 }
 
-fn block_of(down: &[u8], entry: &[u8], label: &[u8], out: &mut [u8]) -> usize {
-    if entry.len() < 8 {
-        return print::malformed(out);
-    }
-    if label.len() < 1 {
-        return print::malformed(out);
-    }
-    let set = blocks::occurrences(down, eight(entry, 0), label[0]);
-    print::block(
-        out,
-        set,
-        blocks::block_size(set),
-        blocks::first_occurrence(set),
-    )
+// The set, its size, its first.
+fn block(arguments: &[u8], out: &mut Out) -> Option<()> {
+    let (down, left) = argument(arguments, 1, room::DOWN)?;
+    let (entry, left) = argument(left, 8, 1)?;
+    let entry = exactly(entry)?;
+    let (label, left) = argument(left, 1, 1)?;
+    let [label] = exactly::<1>(label)?;
+    ends(left)?;
+    let set = blocks::occurrences(down, u64::from_le_bytes(entry), label);
+    let size = blocks::block_size(set);
+    let first = blocks::first_occurrence(set);
+    print::line(out, &[set, size.into(), first.into()]);
+    Some(())
 }

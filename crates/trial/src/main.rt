@@ -10,81 +10,69 @@ mod print;
 mod request;
 mod room;
 
-ghost use Rattle.std.specs.Prelude.{◌≤◌};
+use print::Out;
+use text::{STDIN, STDOUT};
 
-use text::STDIN;
+// Why no request was read.
+#[derive(Clone, Copy)]
+enum Fault {
+    Ended,
+    CutOff,
+    OverRoom,
+}
 
 fn main() {
-    let mut request = [0u8; room::REQUEST];
-    run(&mut request);
+    let mut bytes = [0; room::REQUEST];
+    let mut out = Out::new(STDOUT);
+    run(&mut bytes, &mut out);
 }
 
-// Nothing says that the input ends, so the requests are counted down.
-fn run(request: &mut [u8]) {
-    let mut left: u64 = 18446744073709551615;
-    while 0 < left {
-        if !next(request) {
-            return;
+// Nothing says that the input ends, so the requests are counted.
+fn run(bytes: &mut [u8], out: &mut Out) {
+    for _ in 0..u64::MAX {
+        match read(bytes) {
+            Ok(request) => calls::reply(request, out),
+            Err(Fault::OverRoom) => print::malformed(out),
+            Err(Fault::CutOff) => {
+                print::malformed(out);
+                print::close(out);
+                return;
+            }
+            Err(Fault::Ended) => return,
         }
-        left -= 1;
+        print::close(out);
     }
 }
 
-// Reads a request and answers it. False where the run has ended: with a request that is cut off, or before the next one.
-fn next(request: &mut [u8]) -> bool {
-    let mut head = [0u8; 4];
-    let got = io::read_full(STDIN, &mut head);
-    if got == 0 {
-        return false;
+// Reads a request. One that is over all rooms is read and forgotten.
+fn read(bytes: &mut [u8]) -> Result<&[u8], Fault> {
+    let mut length = [0; 4];
+    match io::read_full(STDIN, &mut length) {
+        0 => return Err(Fault::Ended),
+        4 => {}
+        _ => return Err(Fault::CutOff),
     }
-    if got < 4 {
-        malformed();
-        return false;
-    }
-    let length = numbers::four(&head, 0) as usize;
-    if request.len() < length {
+    let length = u32::from_le_bytes(length) as usize;
+    if bytes.len() < length {
         skip(length);
-        malformed();
-        return true;
+        return Err(Fault::OverRoom);
     }
-    if io::read_full(STDIN, &mut request[0..length]) < length {
-        malformed();
-        return false;
+    let request = &mut bytes[..length];
+    if io::read_full(STDIN, request) < length {
+        return Err(Fault::CutOff);
     }
-    answer(&request[0..length]);
-    true
+    Ok(request)
 }
 
-// A request over all rooms is read and forgotten.
 fn skip(length: usize) {
+    let mut bytes = [0; 4096];
     let mut left = length;
     while 0 < left {
-        let n = forget(left);
+        let part = left.min(bytes.len());
+        let n = io::read_full(STDIN, &mut bytes[..part]);
         if n == 0 {
             return;
         }
         left -= n;
     }
-}
-
-fn forget(left: usize) -> usize
-    ensures { result ≤ left }
-{
-    let mut bytes = [0u8; 4096];
-    if left < 4096 {
-        return io::read_full(STDIN, &mut bytes[0..left]);
-    }
-    io::read_full(STDIN, &mut bytes)
-}
-
-fn malformed() {
-    let mut out = [0u8; 64];
-    let held = print::malformed(&mut out);
-    print::close(&mut out, held);
-}
-
-fn answer(request: &[u8]) {
-    let mut out = [0u8; print::ROOM];
-    let held = calls::reply(request, &mut out);
-    print::close(&mut out, held);
 }

@@ -1,100 +1,31 @@
 // A request taken apart: a byte for the call, then each argument as four bytes of length and the bytes.
-ghost use Rattle.std.specs.Prelude.{◌-◌, ◌<◌, ◌≤◌, ◌≡◌, false, length, take, drop};
-ghost use Rattle.trial.specs.Requests.{Follows, Exactly, Ended};
+ghost use Rattle.std.specs.Prelude.{◌<◌, ◌≡◌, ◌↔◌, [], length, IsSome, MatchOption};
+ghost use Rattle.trial.specs.Requests.{Argument, NoArgument};
 
-use crate::numbers::{four, least};
-
-// Where an argument stands. It is not whole where it, or one before it, is malformed or over its room.
-#[derive(Clone, Copy)]
-pub struct Part {
-    pub whole: bool,
-    pub from: usize,
-    pub end: usize,
-}
-
-fn broken() -> Part
-    ensures { result.whole ≡ false }
-{
-    Part {
-        whole: false,
-        from: 0,
-        end: 0,
-    }
-}
-
-// What stands before the first argument: the call's byte.
-pub fn opening() -> Part {
-    Part {
-        whole: true,
-        from: 0,
-        end: 1,
-    }
-}
-
-// The argument after another: so many elements of `width` bytes as there is room for, or fewer.
-pub fn argument(request: &[u8], before: Part, width: usize, room: usize) -> Part
+// The argument at the head of what is left of a request, and what is left behind it: so many elements of `width` bytes as there is room
+// for, or fewer.
+pub fn argument(left: &[u8], width: usize, room: usize) -> Option<(&[u8], &[u8])>
     requires { 0 < width }
-    ensures { Follows request.now before width room result }
+    ensures { MatchOption result (NoArgument left.now width room) (λ p. Argument left.now width room p.0.now p.1.now) }
 {
-    let at = before.end;
-    if !before.whole {
-        return broken();
+    let (length, behind) = left.split_first_chunk()?;
+    let (argument, left) = behind.split_at_checked(u32::from_le_bytes(*length) as usize)?;
+    if argument.len() % width != 0 || room < argument.len() / width {
+        return None;
     }
-    if request.len() < at {
-        return broken();
-    }
-    if request.len() - at < 4 {
-        return broken();
-    }
-    let length = four(request, at) as usize;
-    let from = at + 4;
-    if request.len() - from < length {
-        return broken();
-    }
-    if length % width != 0 {
-        return broken();
-    }
-    if room < length / width {
-        return broken();
-    }
-    Part {
-        whole: true,
-        from,
-        end: from + length,
-    }
+    Some((argument, left))
 }
 
 // An argument of exactly so many bytes.
-pub fn exactly(p: Part, bytes: usize) -> Part
-    ensures { Exactly p bytes result }
+pub fn exactly<const N: usize>(argument: &[u8]) -> Option<[u8; N]>
+    ensures { MatchOption result (¬ (length argument.now ≡ N)) (λ a. a ≡ argument.now) }
 {
-    if p.end < p.from {
-        return broken();
-    }
-    if p.end - p.from != bytes {
-        return broken();
-    }
-    p
+    argument.try_into().ok()
 }
 
-// All arguments are whole and nothing is left after the last.
-pub fn ends(request: &[u8], last: Part) -> bool
-    ensures { Ended request.now last result }
+// Nothing is left after the last argument.
+pub fn ends(left: &[u8]) -> Option<()>
+    ensures { IsSome result ↔ (left.now ≡ []) }
 {
-    if !last.whole {
-        return false;
-    }
-    if last.end != request.len() {
-        return false;
-    }
-    true
-}
-
-// An argument's bytes.
-pub fn bytes(request: &[u8], p: Part) -> &[u8]
-    ensures { p.from ≤ p.end → p.end ≤ length request.now → result.now ≡ take (p.end - p.from) (drop p.from request.now) }
-{
-    let end = least(p.end, request.len());
-    let from = least(p.from, end);
-    &request[from..end]
+    if left.is_empty() { Some(()) } else { None }
 }

@@ -1,22 +1,19 @@
+use Rattle.std.proofs.Common.{refl, rules}
+use Rattle.std.proofs.lemmas.Result.{err_from_is_err_and}
 use Rattle.tables.specs.Answer.{lent}
-use Rattle.groups.proofs.Answering.{unbuilt_text, built_text, down_long}
+use Rattle.groups.specs.Answers.{BookText, not_built}
+use Rattle.groups.proofs.Answering.{built_text}
 use Rattle.groups.proofs.build.Goals as goal
 
-pub group-requires : goal.group-requires
-group-requires c = (c.requires, down_long c.build.auto.down)
+pub returns-in_err-build : goal.returns-in_err-build
+returns-in_err-build c =
+    let m = c.build.new in
+    let left = lent m.plausible m.counts m.feasible m.tally m.up m.down in
+    let p = err_from_is_err_and c.from_residual.result c.from_residual.ensures.1 in
+    rw (p.1, p.2) (not_built _ _ left c.in_err-build.ensures refl)
 
-pub returns-in-Refused : goal.returns-in-Refused
-returns-in-Refused c =
-    let a = c.args in
-    let done = c.build in
-    let left = lent done.new.plausible done.new.counts done.new.feasible done.new.tally done.new.up done.new.down in
-    let shown = c.refused.ensures in
-    (shown.within, unbuilt_text a.book.now a.sheet.now left done.result done.ensures c.in-Refused.is shown.this)
-
-pub returns-in-Accepted : goal.returns-in-Accepted
-returns-in-Accepted c =
-    let a = c.args in
-    let done = c.build in
-    let left = lent done.new.plausible done.new.counts done.new.feasible done.new.tally done.new.up done.new.down in
-    let shown = c.group.ensures in
-    (shown.0, built_text a.book.now a.sheet.now left done.result done.ensures c.in-Accepted.is shown.1)
+pub returns : goal.returns
+returns c =
+    let m = c.build.new in
+    let left = lent m.plausible m.counts m.feasible m.tally m.up m.down in
+    built_text _ _ c.group.result left c.in_ok-build.ensures c.group.ensures

@@ -1,26 +1,23 @@
-use mathlib.Core.Path.{refl}
-use native.Mathlib.Omega.{arith}
-use borrow.Author.Tests.{not-true, not-false}
-use Rattle.trial.proofs.Parsing.{after_none, no_length, cut_off, uneven, over, found}
+use Rattle.std.proofs.Common.{◌≡◌, length, arith}
+use Rattle.std.proofs.lemmas.Grind.{common_steps}
+use Rattle.trial.specs.Numbers.{four}
+use Rattle.trial.proofs.Parsing.{uneven, over, found}
+use Rattle.trial.proofs.request.argument.Goals.{then-argument-width-ne0-via-then-argument-width-ne0, then-argument-width-ne0-via-else-argument-width-ne0+then-room-argument}
 use Rattle.trial.proofs.request.argument.Goals as goal
 
-pub returns-then-not-before : goal.returns-then-not-before
-returns-then-not-before c = after_none c.broken.ensures (not-true _ c.if-not-before.true)
-
-pub returns-then-request-at : goal.returns-then-request-at
-returns-then-request-at c = no_length c.broken-then-request-at.ensures (omega arith)
-
-pub returns-then-request-at-lt4 : goal.returns-then-request-at-lt4
-returns-then-request-at-lt4 c = no_length c.broken-then-request-at-lt4.ensures (omega arith)
-
-pub returns-then-request-from : goal.returns-then-request-from
-returns-then-request-from c = cut_off c.four-length.ensures c.broken-then-request-from.ensures (omega arith)
-
-pub returns-then-length-width-ne0 : goal.returns-then-length-width-ne0
-returns-then-length-width-ne0 c = uneven c.four-length.ensures c.broken-then-length-width-ne0.ensures c.if-length-width-ne0.true
-
-pub returns-then-room-length : goal.returns-then-room-length
-returns-then-room-length c = over c.four-length.ensures c.broken-then-room-length.ensures c.requires (omega arith)
+pub returns-then-argument-width-ne0 : goal.returns-then-argument-width-ne0
+returns-then-argument-width-ne0 c =
+    let front = c.in_ok-length.ensures.cases in
+    let cut = c.in_ok-argument.ensures.cases in
+    let told : length c.in_ok-argument.argument.now ≡ four c.args.left.now 0 = grind (arith, common_steps) in
+    elim c.then-argument-width-ne0.branch [
+      | then-argument-width-ne0-via-then-argument-width-ne0 w ↦ uneven told w.if-argument-width-ne0.true
+      | then-argument-width-ne0-via-else-argument-width-ne0+then-room-argument w ↦ over told c.requires w.if-room-argument.true
+    ]
 
 pub returns : goal.returns
-returns c = found c.four-length.ensures (not-false _ c.if-not-before.false) refl refl refl (omega arith) c.if-length-width-ne0.false (omega arith)
+returns c =
+    let front = c.in_ok-length.ensures.cases in
+    let cut = c.in_ok-argument.ensures.cases in
+    let told : length c.in_ok-argument.argument.now ≡ four c.args.left.now 0 = grind (arith, common_steps) in
+    found told (omega arith) (cc) (grind (arith, common_steps)) c.if-argument-width-ne0.false c.if-room-argument.false
