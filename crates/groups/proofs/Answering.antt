@@ -58,10 +58,6 @@ printable b l T m (none, grouped) kn kg kd up down =
       entries = few_entries;
     }
 
--- the down table keeps its room
-pub down_long : {n : ℕ} → n ≡ length build_room.down → n ≡ entry_bytes * down_room
-down_long e = e ∙ length-replicate {A = ℕ} (entry_bytes * down_room) 0
-
 -- the text that is due by what the sheet call says
 pub said_text : {b l : List ℕ} {T : Tables} (said : Said) (left : Lent) → CallDue b l T sheet_room said left → SheetText b l T (printed b l said left)
 said_text said left d = record { said = said; left = left; due = d; shown = refl }

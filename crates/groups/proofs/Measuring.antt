@@ -88,6 +88,3 @@ printed_short {b} {l} {m} p t n s g hn hs hg =
     let rest : length (lines (grammar b) l m (length l)) ≤ most_line * length l = lines_short p t (length l) (omega arith) in
     let few : length l ≤ node_room = p.few in
     rw length-append (omega arith)
-
-pub at_most : {a b c : ℕ} → a ≤ b → b ≤ c → a ≤ c
-at_most h k = omega arith

@@ -77,10 +77,6 @@ line_text i p u f e own a b c d g k l =
     (followed (followed (followed (followed (followed (followed a b) c) d) g) k) l)
 
 -- ── all lines ──
--- the settings of a production's left kind, read by its place in the index
-pub settings_told : {b places : List ℕ} → Accepted b → Index b places → (p : ℕ) → p < prods b → {y n : ℕ} → y ≡ left_at b (get_or places p 0) → n ≡ settings_of b y
-    → n ≡ (grammar b).settings ((grammar b).left p)
-settings_told {b} a x p h {y} e f = f ∙ settings_read a y ∙ ap (λ (k : ℕ). (grammar b).settings k) (e ∙ ap (λ (k : ℕ). left_at b k) (place_read a x p h))
 
 settings_front : (G : Grammar) (l : List ℕ) (i : ℕ) → all_settings G (take i l) ≤ all_settings G l
 unfolding all_settings

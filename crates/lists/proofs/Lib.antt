@@ -4,9 +4,6 @@ pub mod Rising
 pub mod Parts
 pub mod Carry
 pub mod Room
-pub mod MapTo
-pub mod Filled
 pub mod Sought
 pub mod Places
-pub mod Copied
 pub mod Carries

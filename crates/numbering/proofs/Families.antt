@@ -142,9 +142,6 @@ module _ {x : Call} {nodes : List Node} {i s e first : ℕ} {holders₀ : List H
     here : j < length ((grammar_in x).kids (get_or x.sheet.now i 0))
     here = omega (arith, ap length ek)
 
-    pub naming_inside : child < max_nodes
-    naming_inside = child_low r.children here n.stands
-
     there : child < length x.sheet.now
     there = omega (arith, n.stands, r.kinds_are.there j here)
 
@@ -161,9 +158,6 @@ module _ {x : Call} {nodes : List Node} {i s e first : ℕ} {holders₀ : List H
 
       pub naming_fits : (get_or nodes child unread).first_setting + width ≤ length g
       naming_fits = omega (arith, placed, width_is, same_kind, settings_inside (grammar_in x) x.sheet.now child there, r.room, n.long)
-
-      pub naming_low : next + width < 65536
-      naming_low = omega (arith, n.few, r.low, few_kids x (known_in x i r.there), ap length ek)
 
       -- its settings are k of all, from the place at on
       module _ {at k : ℕ} (ea : at ≡ (get_or nodes child unread).first_setting) (ew' : k ≡ width) where

@@ -19,9 +19,6 @@ pub record Multiplying (c ks : List ℕ) (x j : ℕ) : Type 0 where
   pub whole : x * choices c (drop j ks) ≡ choices c ks
   pub small : x ≤ byte_values ^ j
 
-pub multiplying_none : {c ks : List ℕ} → Multiplying c ks 1 0
-multiplying_none = record { whole = one-mul _; small = omega (arith, pow-zero byte_values) }
-
 module _ {c ks : List ℕ} {x j : ℕ} (k : Multiplying c ks x j) where
   pub multiplying_turn : j < length ks → Fits w8 (get_or c (get_or ks j 0) 0) → Multiplying c ks (x * get_or c (get_or ks j 0) 0) (j + 1)
   unfolding choices
@@ -46,9 +43,6 @@ pub record Summing (P : ℕ → ℕ → Type 0) (count most : ℕ) (starts : Lis
   pub long : length starts ≡ max_prods
   pub sums : (S : ℕ → ℕ) → ((q n : ℕ) → q < count → P q n → S (suc q) ≡ S q + n) → S 0 ≡ 0
       → (next ≡ S p) × ((q : ℕ) → q < p → get_or starts q 0 ≡ S q)
-
-pub summing_none : (P : ℕ → ℕ → Type 0) (count most : ℕ) → Summing P count most (replicate max_prods 0) 0 0
-summing_none P count most = record { small = omega arith; long = length-replicate {A = ℕ} max_prods 0; sums = λ S f e. (sym e, λ q h. absurd (omega arith)) }
 
 module _ {P : ℕ → ℕ → Type 0} {count most : ℕ} {starts : List ℕ} {next p : ℕ} (k : Summing P count most starts next p) where
   pub summing_turn : {n : ℕ} → p < count → count ≤ max_prods → P p n → n ≤ most → Summing P count most (set starts p next) (next + n) (p + 1)

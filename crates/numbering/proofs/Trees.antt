@@ -56,10 +56,6 @@ settings_before G (p ∷ l) (suc m) (suc n) h k = let r = settings_before G l m 
 pub settings_inside : (G : Grammar) (l : List ℕ) (m : ℕ) → m < length l → all_settings G (take m l) + G.settings (G.left (get_or l m 0)) ≤ all_settings G l
 settings_inside G l m h = rw (take_all (length l) l (omega arith)) at (settings_before G l m (length l) h h)
 
--- the root's are the first
-pub root_inside : (G : Grammar) (l : List ℕ) {w n : ℕ} → w ≡ G.settings (G.left (get_or l 0 0)) → 1 ≤ length l → all_settings G l ≤ n → 0 + w ≤ n
-root_inside G l e h k = omega (arith, e, settings_inside G l 0 h, k)
-
 -- a node of an accepted book has few
 pub few_settings : {b : List ℕ} → Accepted b → (p : ℕ) → p < prods b → (grammar b).settings ((grammar b).left p) ≤ max_settings
 few_settings {b} a p h = a.lawful.few_settings ((grammar b).left p) (a.lawful.left_in p h)

@@ -19,9 +19,6 @@ turned_done true u = u.case.1
 abbrev pub Round : (n : ℕ) (P : ℕ → ℕ → Type 0) (D : List ℕ → List ℕ → ℕ → Type 0) (s₀ c₀ s c : List ℕ) (added : Bool) (p : ℕ) → Type 0
 Round n P D s₀ c₀ s c added p = Turned n P ((i : ℕ) → i < p → D s c i) s₀ c₀ s c (Ok added)
 
-pub round_begun : {n : ℕ} {P : ℕ → ℕ → Type 0} (D : List ℕ → List ℕ → ℕ → Type 0) {s c : List ℕ} → Fine n P s c → Round n P D s c s c false 0
-round_begun {n} D {s} {c} f = record { fine = f; kept = kept_refl n s c; case = (refl, refl, λ i l. absurd (omega arith)) }
-
 module _ {n : ℕ} {P : ℕ → ℕ → Type 0} (D : List ℕ → List ℕ → ℕ → Type 0) {s₀ c₀ s c s' c' : List ℕ} {p : ℕ} where
   -- one more
   pub round_next : (a b : Bool) → Lasts n D → Round n P D s₀ c₀ s c a p → Turned n P (D s' c' p) s c s' c' (Ok b) → Round n P D s₀ c₀ s' c' (a || b) (p + 1)

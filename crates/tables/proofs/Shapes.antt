@@ -23,9 +23,6 @@ use Rattle.tables.specs.declared.shape.Shape.{Shape}
 use Rattle.tables.proofs.StateBase.{width_is, few_settings}
 
 -- ── the reading ──
-slots_long : (b : List ℕ) (at t n : ℕ) → length (slots_at b at t n) ≡ n
-slots_long b at t zero = refl
-slots_long b at t (suc n) = ap suc (slots_long b at (suc t) n)
 
 slots_get : (b : List ℕ) (at t n j : ℕ) → j < n → get_or (slots_at b at t n) j no_slot ≡ slot_at b at (t + j)
 slots_get b at t zero j h = elim h [ ]
