@@ -4,10 +4,10 @@ use mathlib.Core.List.{List, [], ◌++◌, append_assoc, append-nil}
 use Prim.Native.Nat.{ℕ, ◌+◌, ◌≤◌}
 use native.Mathlib.Omega.{arith}
 use lib.ListN.{length, length-append}
-use Rattle.text.specs.Held.{Added, fits, full}
+use Rattle.text.specs.Texts.{AddedTo, fits, full}
 use Rattle.groups.specs.Adding.{Adds, most_text}
 
-pub added : {s w s' : List ℕ} → Added most_text s w s' → Adds s w s'
+pub added : {s w s' : List ℕ} → AddedTo most_text s w s' → Adds s w s'
 added (fits g e) = record { room = λ _. e }
 added (full g e) = record { room = λ r. absurd (omega arith) }
 

@@ -1,2 +1,3 @@
 pub mod Decimals
 pub mod Held
+pub mod Texts
