@@ -1,6 +1,6 @@
 -- The numbers in a set: how many they are, and the first of them.
 use mathlib.Core.Path.{◌≡◌, refl, sym, ap, ◌∙◌}
-use mathlib.Core.Logic.{inl, inr, ⊎_elim}
+use mathlib.Core.Logic.{◌⊎◌, inl, inr, ⊎_elim}
 use mathlib.Core.Bool.{true, false}
 use mathlib.Core.List.Memᴰ
 use mathlib.Core.List.{List, [], ◌∷◌, Memᴰ}
@@ -10,11 +10,11 @@ use native.Mathlib.Decide.{dec_lt}
 use native.Mathlib.Omega.{arith}
 use lib.ListN.{length}
 use lib.Dec.{eqb}
-use lib.Count.{ones, ones_step, count_trailing_zeros}
-use Rattle.std.proofs.Common.{w64}
-use Rattle.std.proofs.lemmas.Nat.Bits.{bit_at_lowest, bit_at-suc, bit_at_above, bit_at-zero, bit_at-trailing_zeros}
+use lib.Count.{ones, ones_step, under, count_trailing_zeros}
+use Rattle.std.proofs.lemmas.Nat.Bits.{bit_at_lowest, bit_at-suc, bit_at_above}
 use Rattle.lists.specs.Pick.{pick}
 use Rattle.lists.specs.Rising.{Rising, none, single, step}
+use Rattle.lists.specs.Sought.{Free, Least}
 use Rattle.lists.proofs.Rising.{rising_once}
 use Rattle.lists.proofs.Sought.{least_once, least_not_free}
 use Rattle.blocks.specs.Blocks.{set_bits, In, Size, FirstIn}
@@ -120,18 +120,31 @@ block_size_once s n m a b =
     sym a.many ∙ ap length e ∙ b.many
 
 -- ── the first ──
--- THEOREM: the number of trailing zeros is the first in the set, or its width
-pub first_is : (s : ℕ) → s < 2 ^ set_bits → FirstIn s (count_trailing_zeros set_bits s)
+-- of the lowest n bits
+abbrev Firstly : ℕ → ℕ → ℕ → Type 0
+Firstly n s i = Least (In s) n i ⊎ ((i ≡ n) × Free (In s) n)
+
+first_from : (n s : ℕ) → Firstly n s (count_trailing_zeros n s)
 unfolding count_trailing_zeros
-first_is s h = go (dec_lt 0 s)
+first_from zero s = inr (refl, λ j h b. omega arith)
+first_from (suc n) s = go (lowest s) (first_from n (s / 2))
   where
-    go : Dec (0 < s) → FirstIn s (count_trailing_zeros set_bits s)
-    go (yes p) =
-        let (w, b, f) = bit_at-trailing_zeros w64 s p h in
-        inl (record { below = w; has = b; first = λ j k e. omega (arith, f j k) })
-    go (no p) =
-        let e : s ≡ 0 = omega arith in
-        rw e (inr (refl {a = set_bits}, λ j k d. omega (arith, bit_at-zero j)))
+    later : (m : ℕ) → s % 2 ≡ 0 → Free (In (s / 2)) m → Free (In s) (suc m)
+    later m e f zero h b = omega (arith, sym (bit_at_lowest s) ∙ b)
+    later m e f (suc j) h b = f j (omega arith) (sym (bit_at-suc s j) ∙ b)
+
+    go : Lowest s → Firstly n (s / 2) (count_trailing_zeros n (s / 2)) → Firstly (suc n) s (under (s % 2) (count_trailing_zeros n (s / 2)))
+    go (on e t) w = rw e (inl (record { below = omega arith; has = bit_at_lowest s ∙ e; first = λ j h b. omega arith }))
+    go (off e t) (inl l) = rw e (inl (record {
+      below = omega (arith, l.below);
+      has = bit_at-suc s (count_trailing_zeros n (s / 2)) ∙ l.has;
+      first = later (count_trailing_zeros n (s / 2)) e l.first;
+    }))
+    go (off e t) (inr (z, f)) = rw e (inr (ap suc z, later n e f))
+
+-- THEOREM: the number of trailing zeros is the first in the set, or its width
+pub first_is : (s : ℕ) → FirstIn s (count_trailing_zeros set_bits s)
+first_is s = first_from set_bits s
 
 pub first_occurrence_once : (s i j : ℕ) → FirstIn s i → FirstIn s j → i ≡ j
 first_occurrence_once s i j (inl a) (inl b) = least_once (In s) set_bits set_bits i j a b

@@ -40,6 +40,7 @@ one_outcome = record {
   check_book = book.check_once;
   index = λ b x y. index_once;
   accessor = λ x r s a b. a ∙ sym b;
+  at = λ q place r s a b. a ∙ sym b;
   check_sheet = sheet.check_once;
   export_book = book_word_once;
   export_sheet = sheet_word_once;

@@ -1,5 +1,6 @@
 -- UNIQUENESS: two outcomes that keep the promise of one public call are the same outcome, answer, place and all lent memory.
 use Rattle.std.specs.Prelude.{◌≡◌, Bool, List, ℕ, Option, Result}
+use Rattle.refusals.specs.declared.Refusal.{Refusal}
 use Rattle.refusals.specs.declared.Refused.{Refused}
 use Rattle.zeros.specs.Zeros as zeros
 use Rattle.slices.specs.Slices as slices
@@ -32,10 +33,12 @@ use Rattle.numbering.specs.Promise as numbering
 
 pub record OneOutcome : Type 0 where
   -- the book: its check; the places of its entries; of every other accessor (field, kinds, productions, start, first_entry, settings, mask, left, arity, kid, kind_in, pairs,
-  -- to, from, next, slot, setting) the answer is the number that its promise names
+  -- to, from, next, slot, setting), as of a refusal's number and of zero, the answer is the number that its promise names
   pub check_book : (b : List ℕ) (r s : Result book_counts.Counts Refused) → BookDue b (book_answer.said r) → BookDue b (book_answer.said s) → r ≡ s
   pub index : (b x y : List ℕ) → Index b x → Index b y → x ≡ y
   pub accessor : (x r s : ℕ) → r ≡ x → s ≡ x → r ≡ s
+  -- a refusal at a place
+  pub at : (q : Refusal) (place : ℕ) (r s : Refused) → r ≡ record { refusal = q; place = place } → s ≡ record { refusal = q; place = place } → r ≡ s
   -- the sheet's check
   pub check_sheet : (b l : List ℕ) (r s : Result sheet_counts.Counts Refused) → SheetDue b l (sheet_answer.said r) → SheetDue b l (sheet_answer.said s) → r ≡ s
   -- both checks as exported functions

@@ -16,6 +16,9 @@ module _ (P : ℕ → Type 0) where
   pub free_more : (i : ℕ) → Free P i → (P i → ⊥) → Free P (i + 1)
   free_more i f n = below_more _ _ f n
 
+  pub free_fewer : (i j : ℕ) → i ≤ j → Free P j → Free P i
+  free_fewer i j h f k l p = f k (omega arith) p
+
   -- where something below n has it, not nothing does
   pub least_not_free : (n i : ℕ) → Least P n i → Free P n → ⊥
   least_not_free n i l f = f i l.below l.has

@@ -1,7 +1,7 @@
 -- Laws of a node's children: where they stand, and their counts and ranks as a read takes them.
 use mathlib.Core.Path.{◌≡◌, sym, ap, subst, ◌∙◌}
 use mathlib.Core.List.{List}
-use Prim.Native.Nat.{ℕ, ◌+◌, ◌≤◌, ◌<◌}
+use Prim.Native.Nat.{ℕ, suc, ◌+◌, ◌≤◌, ◌<◌}
 use native.Mathlib.Decide.{dec_lt}
 use native.Mathlib.Numerals.{add-one}
 use native.Mathlib.Omega.{arith}
@@ -20,6 +20,15 @@ use Rattle.numbering.proofs.Building.{Building, building_none, building_turn}
 -- ── where the children stand ──
 pub child_low : {ends : List ℕ} {i k j at : ℕ} → Children ends i k → j < k → at ≡ child_at ends i j → at < max_nodes
 child_low {j = j} c l e = omega (arith, c.each j l)
+
+-- a child's end is within the list
+pub end_low : {ends : List ℕ} {i k j at : ℕ} → Children ends i k → j < k → at ≡ child_at ends i j → get_or ends at 0 ≤ max_nodes
+unfolding child_at
+end_low {ends} {i} {k} {j} {at} c l e = omega (arith, ap (λ y. get_or ends y 0) e, go (dec_lt (suc j) k))
+  where
+    go : Dec (suc j < k) → get_or ends (child_at ends i j) 0 ≤ max_nodes
+    go (yes y) = let h : get_or ends (child_at ends i j) 0 < max_nodes = c.each (suc j) y in omega arith
+    go (no y) = let q : suc j ≡ k = omega arith in subst (λ m. child_at ends i m ≤ max_nodes) (sym q) c.last
 
 pub child_first : (ends : List ℕ) (i : ℕ) → i + 1 ≡ child_at ends i 0
 unfolding child_at

@@ -27,7 +27,7 @@ pub record OnlyFeasible (nodes nodes' : List Node) : Type 0 where
   pub upward : SameUpward nodes nodes'
   pub entries : down_entries nodes' ≡ down_entries nodes
 
--- no more than the places of settings has
+-- where subtrees end and the down entries are as before; the places of settings need not be
 pub record OnlyPlaces (nodes nodes' : List Node) : Type 0 where
   pub ends : subtree_ends nodes' ≡ subtree_ends nodes
   pub entries : down_entries nodes' ≡ down_entries nodes

@@ -1,7 +1,6 @@
 -- The zeros below a set's lowest one are the numbers before its first.
-use borrow.Author.Rules.{rules}
 use Rattle.blocks.proofs.SetMembers.{first_is}
 use Rattle.blocks.proofs.first_occurrence.Goals as goal
 
 pub returns : goal.returns
-returns c = first_is c.args.set (search rules)
+returns c = first_is c.args.set
