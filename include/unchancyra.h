@@ -13,7 +13,7 @@
  *
  * Every answer is one number: 0 where all is accepted, else the refusal's number times 65,536 plus its place. One is given for
  * every content of the slices: there is no input on which a call fails, stops or does not return. A call takes less than
- * 16 KiB of stack (160 bytes for each level of the tree that it stands in, at most 65 of them, and 1.2 KiB besides).
+ * 16 KiB of stack (80 bytes for each level of the tree that it stands in, at most 65 of them, and 1.2 KiB besides).
  */
 #ifndef UNCHANCYRA_H
 #define UNCHANCYRA_H
